@@ -1,0 +1,24 @@
+//! Places, bounds and series, and what it means that a series obeys bounds.
+//!
+//! A series is a list of whole numbers of a unit, one for each reading. A bound limits how far the
+//! value at one end may lie above the value at another, after the speed constraint of Song, Zhang,
+//! Wang and Yu (SCREEN, SIGMOD 2015).
+#![tactic(auto)]
+
+mod bound;
+mod place;
+
+pub use bound::{Bound, BoundName, FlowItem, Side};
+pub use place::{End, Place};
+use sequence::Sequence;
+
+/// Places of readings.
+pub type Places = Sequence<Place>;
+/// A value for each reading, in units.
+pub type Series = Sequence<i64>;
+/// Bounds in their order.
+pub type BoundList = Sequence<Bound>;
+/// Flow on bounds.
+pub type FlowList = Sequence<FlowItem>;
+/// Names of bounds.
+pub type NameList = Sequence<BoundName>;

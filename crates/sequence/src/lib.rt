@@ -1,0 +1,109 @@
+//! A growing list whose contracts see its elements alone, and not where they lie in memory.
+#![tactic(auto)]
+
+ghost use Rattle.std.specs.Prelude.{◌≡◌, [], ◌∷◌, ◌++◌, length, slice_get, slice_set, option_copied, OnOk, OnErr, ◌==◌, ◌<◌};
+
+use std::alloc::{AllocError, Global};
+use std::marker::Model;
+
+/// A list that grows at its end, over a vector.
+///
+/// Two lists with the same elements are equal in every contract, whatever room they have taken.
+#[derive(Drop)]
+pub struct Sequence<T> {
+    elements: Vec<T>,
+}
+
+impl<T> Model for Sequence<T> {
+    ghost use Rattle.std.specs.Prelude.{List};
+
+    ghost Value = { List T };
+
+    ghost view = { λ s. s.elements.items };
+}
+
+impl<T: Drop> Sequence<T> {
+    /// The empty list. It takes no memory until the first push.
+    pub fn new(alloc: Global) -> Self
+        ensures { result ≡ [] }
+    {
+        Sequence {
+            elements: Vec::new(alloc),
+        }
+    }
+
+    /// Adds an element at the end. Where memory runs out the list is as it was.
+    pub fn push(&mut self, element: T) -> Result<(), AllocError>
+        ensures ok { OnOk result (self.new ≡ self.old ++ element ∷ []) }
+        ensures err { OnErr result (self.new ≡ self.old) }
+    {
+        self.elements.push(element)?;
+        Ok(())
+    }
+
+    /// The number of elements.
+    pub fn len(&self) -> usize
+        ensures { result ≡ length self.now }
+    {
+        self.elements.len()
+    }
+
+    /// Whether there is no element.
+    pub fn is_empty(&self) -> bool
+        ensures { result ≡ (length self.now == 0) }
+    {
+        self.elements.is_empty()
+    }
+
+    /// Puts another element in the place of the one at `index`, counted from 0.
+    pub fn set(&mut self, index: usize, element: T)
+        requires { index < length self.old }
+        ensures { self.new ≡ slice_set self.old index element }
+    {
+        self.elements[index] = element;
+    }
+
+    /// The element at a place counted from 0, and `None` where the list is not that long.
+    pub fn get(&self, index: usize) -> Option<&T>
+        ensures { option_copied result ≡ slice_get self.now index }
+    {
+        self.elements.get(index)
+    }
+
+    /// All elements in order.
+    pub fn as_slice(&self) -> &[T]
+        ensures { result.now ≡ self.now }
+    {
+        self.elements.as_slice()
+    }
+}
+
+impl Sequence<u8> {
+    /// The bytes of a list of bytes.
+    pub fn bytes(&self) -> &[u8]
+        ensures { result.now ≡ self.now }
+    {
+        self.elements.as_slice()
+    }
+}
+
+#[cfg(test)]
+mod tests {
+    use super::*;
+    use std::test::Fail;
+
+    #[test]
+    fn elements_stay_in_order(rt: HostRuntime) -> Result<(), Fail> {
+        let mut name = Sequence::new(rt.alloc());
+        assert!(rt; name.is_empty());
+        for byte in b"fuel" {
+            name.push(*byte)?;
+        }
+        assert_eq!(rt; name.len(), 4);
+        name.set(0, b'd');
+        assert_eq!(rt; name.bytes(), b"duel".as_slice());
+        assert_eq!(rt; name.get(3), Some(&b'l'));
+        assert_eq!(rt; name.get(4), None);
+        Ok(())
+    }
+}
