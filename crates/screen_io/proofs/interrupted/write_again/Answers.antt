@@ -1,0 +1,5 @@
+use Rattle.screen_io.proofs.Steps.{Keeps-nothing}
+use Rattle.screen_io.proofs.interrupted.write_again.Goals as goal
+
+pub loop-init : goal.loop-init
+loop-init g c = Keeps-nothing _
