@@ -1,0 +1,7 @@
+pub mod Numbers
+pub mod Pieces
+pub mod Rates
+pub mod Reading
+pub mod Run
+pub mod Sizes
+pub mod Texts

@@ -1,0 +1,88 @@
+ghost use Rattle.std.specs.Prelude.{◌≡◌, ◌*◌, ◌^◌, ◌<◌, ◌≤◌, ℕ, ℤ, pos, ◌≤ℤ◌, List, IfOk, IfErr};
+ghost use Rattle.fix_point.specs.Grammar.{Parts, IsNumberText};
+ghost use Rattle.fix_point.specs.Scaled.{IsScaled, Refuses};
+ghost use Rattle.fix_point.specs.Reading.{signed_by};
+
+use crate::number::{Number, Tens, number_of};
+use crate::size::size_of;
+use thiserror::Error;
+
+/// The greatest size of a number of units, 10^15.
+const MOST_UNITS: i64 = 1_000_000_000_000_000;
+
+/// What is done with a number that has more decimals than are kept.
+#[derive(Clone, Copy, Debug, PartialEq, Eq)]
+pub enum Extra {
+    /// It is refused.
+    Refuse,
+    /// The nearest number is taken; of two that are as near, the one further from 0.
+    Round,
+}
+
+/// Why a text is refused as a number.
+#[derive(Clone, Copy, Debug, PartialEq, Eq, Error)]
+pub enum NumFault {
+    /// It is no number text.
+    #[error("not a number")]
+    NotNumber,
+    /// It has more decimals than are kept.
+    #[error("more decimals than are kept")]
+    TooFine,
+    /// It is too great in size.
+    #[error("out of range")]
+    OutOfRange,
+}
+
+/// The number of a text times 10^d, as a whole number of at most this size.
+///
+/// # Errors
+///
+/// `NotNumber` for a text that is none; then `TooFine` for a number that is not whole, where such are
+/// refused; then `OutOfRange`.
+pub fn scaled(text: &[u8], d: u32, extra: Extra, most: i64) -> Result<i64, NumFault>
+    requires decimals { d ≤ 9 }
+    requires least { pos 0 ≤ℤ most }
+    requires greatest { most ≤ℤ pos (9 * 10 ^ 18) }
+    ensures accepted { IfOk result (λ value. IsScaled text.now d extra most value) }
+    ensures refused { IfErr result (Refuses text.now d extra most) }
+{
+    let Some(number) = number_of(text) else {
+        return Err(NumFault::NotNumber);
+    };
+    let tens = Tens {
+        above: d + number.tens.above,
+        below: number.tens.below,
+    };
+    let size = size_of(number.mantissa, tens, extra, most.unsigned_abs())?;
+    Ok(signed(number.negative, size))
+}
+
+/// The number of a text times 10^d, as a whole number of units: at most 10^15 in size.
+///
+/// # Errors
+///
+/// As `scaled`.
+pub fn units(text: &[u8], d: u32, extra: Extra) -> Result<i64, NumFault>
+    requires { d ≤ 9 }
+    ensures accepted { IfOk result (λ value. IsScaled text.now d extra (pos (10 ^ 15)) value) }
+    ensures refused { IfErr result (Refuses text.now d extra (pos (10 ^ 15))) }
+{
+    scaled(text, d, extra, MOST_UNITS)
+}
+
+/// A text is a number in one way only.
+pub fn one_value()
+    ensures { (text : List ℕ) (one other : Parts) → IsNumberText text one → IsNumberText text other → one ≡ other }
+{}
+
+/// A number of this size, below 0 where it is negative.
+fn signed(negative: bool, size: u64) -> i64
+    requires { size < 2 ^ 63 }
+    ensures { result ≡ signed_by negative size }
+{
+    if negative {
+        -(size as i64)
+    } else {
+        size as i64
+    }
+}
