@@ -1,0 +1,15 @@
+//! Time texts as ticks: whole nanoseconds since 1970-01-01T00:00:00Z, or since whatever moment the numbers
+//! of a log are counted from. Exact, and in no memory of its own.
+#![tactic(auto)]
+
+mod calendar;
+mod form;
+mod number;
+mod read;
+mod trim;
+
+pub use form::{TimeFault, TimeForm};
+pub use read::ticks;
+
+#[cfg(test)]
+mod tests;

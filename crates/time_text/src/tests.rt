@@ -1,0 +1,205 @@
+use crate::{TimeFault, TimeForm, ticks};
+
+#[test]
+fn numbers_are_scaled_to_nanoseconds(rt: HostRuntime) {
+    for (form, text, want) in [
+        (TimeForm::Sec, "1.5", 1_500_000_000),
+        (TimeForm::Sec, "-1", -1_000_000_000),
+        (
+            TimeForm::Sec,
+            "1714557600.000000001",
+            1_714_557_600_000_000_001,
+        ),
+        (TimeForm::Milli, "1.5", 1_500_000),
+        (TimeForm::Micro, "1.5", 1_500),
+        (TimeForm::Micro, "15e-1", 1_500),
+        (
+            TimeForm::Nano,
+            "9000000000000000000",
+            9_000_000_000_000_000_000,
+        ),
+        (
+            TimeForm::Nano,
+            "-9000000000000000000",
+            -9_000_000_000_000_000_000,
+        ),
+    ] {
+        assert_eq!(rt;
+            ticks(rt.alloc(), form, text.as_bytes()),
+            Ok(want),
+            "{text}"
+        );
+    }
+}
+
+#[test]
+fn numbers_that_are_no_ticks_are_told_apart(rt: HostRuntime) {
+    for (form, text, want) in [
+        (TimeForm::Sec, "", TimeFault::NotTime),
+        (TimeForm::Sec, "noon", TimeFault::NotTime),
+        (TimeForm::Sec, "1e-10", TimeFault::TimeTooFine),
+        (TimeForm::Nano, "0.5", TimeFault::TimeTooFine),
+        (TimeForm::Sec, "9000000001", TimeFault::TimeOutOfRange),
+        (
+            TimeForm::Nano,
+            "9000000000000000001",
+            TimeFault::TimeOutOfRange,
+        ),
+    ] {
+        assert_eq!(rt;
+            ticks(rt.alloc(), form, text.as_bytes()),
+            Err(want),
+            "{text}"
+        );
+    }
+}
+
+// The ticks are those of Python's `datetime`, which has no second 60.
+#[test]
+fn calendar_texts_are_read_in_utc(rt: HostRuntime) {
+    for (form, text, want) in [
+        (TimeForm::Instant, "1970-01-01T00:00:01Z", 1_000_000_000),
+        (
+            TimeForm::Instant,
+            "2024-05-01T00:00:00Z",
+            1_714_521_600_000_000_000,
+        ),
+        (
+            TimeForm::Instant,
+            "2024-05-01 00:00:00Z",
+            1_714_521_600_000_000_000,
+        ),
+        (
+            TimeForm::Instant,
+            "2024-05-01T00:00:00+02:00",
+            1_714_514_400_000_000_000,
+        ),
+        (
+            TimeForm::Instant,
+            "2024-05-01T12:30:15.123456789Z",
+            1_714_566_615_123_456_789,
+        ),
+        (
+            TimeForm::Instant,
+            "2016-12-31T23:59:60Z",
+            1_483_228_799_000_000_000,
+        ),
+        (
+            TimeForm::Instant,
+            "2255-03-14T16:00:00Z",
+            9_000_000_000_000_000_000,
+        ),
+        (TimeForm::Civil, "1970-01-01 00:00:02", 2_000_000_000),
+        (
+            TimeForm::Civil,
+            "2024-05-01T10:00:00",
+            1_714_557_600_000_000_000,
+        ),
+        (
+            TimeForm::Civil,
+            "2024-05-01T10:00:00+02:00",
+            1_714_557_600_000_000_000,
+        ),
+        (
+            TimeForm::Civil,
+            "2016-12-31 23:59:60",
+            1_483_228_799_000_000_000,
+        ),
+        (TimeForm::Civil, "2024-05-01", 1_714_521_600_000_000_000),
+        (
+            TimeForm::Civil,
+            "1700-02-28T23:59:59.000000001",
+            -8_515_238_400_999_999_999,
+        ),
+    ] {
+        assert_eq!(rt;
+            ticks(rt.alloc(), form, text.as_bytes()),
+            Ok(want),
+            "{text}"
+        );
+    }
+}
+
+#[test]
+fn calendar_texts_that_are_no_ticks_are_told_apart(rt: HostRuntime) {
+    for (form, text, want) in [
+        (TimeForm::Instant, "", TimeFault::NotTime),
+        (TimeForm::Instant, "2024-05-01", TimeFault::NotTime),
+        (TimeForm::Instant, "2024-05-01T00:00:00", TimeFault::NotTime),
+        (
+            TimeForm::Instant,
+            "2023-02-29T00:00:00Z",
+            TimeFault::NotTime,
+        ),
+        (
+            TimeForm::Instant,
+            "2255-03-14T16:00:00.000000001Z",
+            TimeFault::TimeOutOfRange,
+        ),
+        (
+            TimeForm::Instant,
+            "2300-01-01T00:00:00Z",
+            TimeFault::TimeOutOfRange,
+        ),
+        (TimeForm::Civil, "", TimeFault::NotTime),
+        (TimeForm::Civil, "2024-05-01 00:00:00Z", TimeFault::NotTime),
+        (TimeForm::Civil, "1600-01-01", TimeFault::TimeOutOfRange),
+    ] {
+        assert_eq!(rt;
+            ticks(rt.alloc(), form, text.as_bytes()),
+            Err(want),
+            "{text}"
+        );
+    }
+}
+
+#[test]
+fn blanks_at_both_ends_are_left_out_in_every_form(rt: HostRuntime) {
+    for (form, text, want) in [
+        (TimeForm::Sec, "\t 1 \t", 1_000_000_000),
+        (TimeForm::Milli, " 1\t", 1_000_000),
+        (TimeForm::Micro, "\t1 ", 1_000),
+        (TimeForm::Nano, "  1  ", 1),
+        (
+            TimeForm::Instant,
+            " \t1970-01-01 00:00:01Z\t ",
+            1_000_000_000,
+        ),
+        (TimeForm::Civil, "\t1970-01-01 00:00:01 ", 1_000_000_000),
+    ] {
+        assert_eq!(rt;
+            ticks(rt.alloc(), form, text.as_bytes()),
+            Ok(want),
+            "{text}"
+        );
+    }
+}
+
+#[test]
+fn a_text_has_at_most_64_bytes_between_its_blanks(rt: HostRuntime) {
+    let longest = b" 1970-01-01T00:00:01Z[u-ca=aaaaaaaaaaaaaaaaaaaaaaaaaaaaaaaaaaaaa] ";
+    assert_eq!(rt; longest.len(), 64 + 2);
+    assert_eq!(rt;
+        ticks(rt.alloc(), TimeForm::Instant, longest),
+        Ok(1_000_000_000)
+    );
+
+    let longer = b"1970-01-01T00:00:01Z[u-ca=aaaaaaaaaaaaaaaaaaaaaaaaaaaaaaaaaaaaaa]";
+    assert_eq!(rt; longer.len(), 65);
+    assert_eq!(rt;
+        ticks(rt.alloc(), TimeForm::Instant, longer),
+        Err(TimeFault::NotTime)
+    );
+}
+
+#[test]
+fn bytes_that_are_no_text_are_no_time(rt: HostRuntime) {
+    assert_eq!(rt;
+        ticks(rt.alloc(), TimeForm::Civil, b"2024-05-01\xff"),
+        Err(TimeFault::NotTime)
+    );
+    assert_eq!(rt;
+        ticks(rt.alloc(), TimeForm::Sec, b"\xff"),
+        Err(TimeFault::NotTime)
+    );
+}
