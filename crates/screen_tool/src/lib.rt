@@ -1,0 +1,21 @@
+//! The program `screen` as a library: what it does with its words, its sources and its sinks.
+//!
+//! It repairs series of sensor readings under rules about how fast they may move. The speed
+//! constraint is that of Song, Zhang, Wang and Yu (SCREEN, SIGMOD 2015).
+#![tactic(auto)]
+
+mod bounds;
+mod command;
+mod ends;
+mod files;
+mod global;
+mod note;
+mod program;
+mod status;
+#[cfg(test)]
+mod tests;
+
+pub use command::{Command, roles};
+pub use ends::{EndUse, Inputs, Outputs, Roles};
+pub use program::run;
+pub use status::{Ending, Status};

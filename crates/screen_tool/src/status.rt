@@ -1,0 +1,95 @@
+ghost use Rattle.std.specs.Prelude.{◌≡◌};
+ghost use Rattle.screen_tool.specs.Ending.{code_of, status_of};
+
+use rule_file::RuleFault;
+use series_csv::TableFault;
+use std::alloc::AllocError;
+
+/// How a run ended, as its exit status tells it.
+#[derive(Clone, Copy, Debug, PartialEq, Eq)]
+pub enum Status {
+    /// 0: the command's text was written to its end.
+    Done,
+    /// 2: the words are no form of a command.
+    Usage,
+    /// 3: the rules are refused.
+    RulesRefused,
+    /// 4: the readings are refused.
+    ReadingsRefused,
+    /// 5: a read failed.
+    ReadFault,
+    /// 6: a write failed.
+    WriteFault,
+    /// 7: memory ran out.
+    Memory,
+    /// 9: the readings do not obey the rules, and repair is not built yet.
+    NeedsRepair,
+}
+
+impl Status {
+    /// The exit status of the program.
+    pub fn code(&self) -> u8
+        ensures { result ≡ code_of self.now }
+    {
+        match self {
+            Status::Done => 0,
+            Status::Usage => 2,
+            Status::RulesRefused => 3,
+            Status::ReadingsRefused => 4,
+            Status::ReadFault => 5,
+            Status::WriteFault => 6,
+            Status::Memory => 7,
+            Status::NeedsRepair => 9,
+        }
+    }
+}
+
+/// How a run ended, with what was refused.
+#[derive(Clone, Copy, Debug, PartialEq, Eq)]
+pub enum Ending {
+    /// The command's text was written to its end.
+    Done,
+    /// The words are no form of a command.
+    Usage,
+    /// The rules are refused.
+    RulesRefused(RuleFault),
+    /// The readings are refused.
+    ReadingsRefused(TableFault),
+    /// A read failed.
+    ReadFault,
+    /// A write failed.
+    WriteFault,
+    /// Memory ran out.
+    Memory,
+    /// The readings do not obey the rules.
+    NeedsRepair,
+}
+
+impl Ending {
+    /// The status of a run that ended so.
+    pub fn status(&self) -> Status
+        ensures { result ≡ status_of self.now }
+    {
+        match self {
+            Ending::Done => Status::Done,
+            Ending::Usage => Status::Usage,
+            Ending::RulesRefused(_) => Status::RulesRefused,
+            Ending::ReadingsRefused(_) => Status::ReadingsRefused,
+            Ending::ReadFault => Status::ReadFault,
+            Ending::WriteFault => Status::WriteFault,
+            Ending::Memory => Status::Memory,
+            Ending::NeedsRepair => Status::NeedsRepair,
+        }
+    }
+}
+
+impl From<AllocError> for Ending {
+    ghost use Rattle.std.specs.Prelude.{◌≡◌};
+    ghost use Rattle.screen_tool.specs.declared.status.Ending.TheVariants.{Memory};
+
+    ghost from_gives = { λ _ ending. ending ≡ Memory };
+
+    fn from(_: AllocError) -> Ending {
+        Ending::Memory
+    }
+}

@@ -1,0 +1,280 @@
+use super::{Command, EndUse, Inputs, Outputs, Status, roles, run};
+use crate::command::command_from;
+use screen_io::{MemSink, MemSource, Source};
+use std::alloc::{AllocError, Global};
+use std::process::Abort;
+use std::test::Fail;
+
+const RULES: &[u8] =
+    b"[format]\ndecimals = 0\n[[speed]]\nsensor = \"x\"\nmin = -1\nmax = 1\nper = 1\nwindow = 10\n";
+
+const READINGS: &[u8] = b"time,x\n0,10\n1,11\n2,12\n";
+
+const CERT: &[u8] = b"screen-cert 1\nclaim repair\ntotal 0\nend\n";
+
+// A run of `global`: how it ended, and what it wrote.
+#[derive(Drop)]
+struct Ran {
+    status: Status,
+    out: MemSink,
+    cert: MemSink,
+    note: MemSink,
+    read_cert: bool,
+}
+
+impl Ran {
+    fn assert_is(&self, rt: &impl Abort, status: Status, out: &[u8], cert: &[u8], note: &[u8]) {
+        assert_eq!(rt; self.status, status);
+        assert_eq!(rt; self.out.held_bytes(), out);
+        assert_eq!(rt; self.cert.held_bytes(), cert);
+        assert_eq!(rt; self.note.held_bytes(), note);
+        assert!(rt; !self.read_cert);
+    }
+}
+
+fn words(alloc: Global, texts: &[&str]) -> Result<Vec<String>, AllocError> {
+    let mut words = Vec::new(alloc);
+    for text in texts {
+        words.push(String::from_str(alloc, text)?)?;
+    }
+    Ok(words)
+}
+
+fn source(alloc: Global, bytes: &[u8], fails: &[u64]) -> Result<MemSource, AllocError> {
+    Ok(MemSource::new(bytes.to_vec(alloc)?, fails.to_vec(alloc)?, 16))
+}
+
+fn sink(alloc: Global, fails: &[u64]) -> Result<MemSink, AllocError> {
+    MemSink::new(alloc, 1000, fails.to_vec(alloc)?, 8)
+}
+
+fn run_with(
+    alloc: Global,
+    texts: &[&str],
+    rules: MemSource,
+    readings: MemSource,
+    out: MemSink,
+) -> Result<Ran, AllocError> {
+    let outs = Outputs {
+        out,
+        cert: sink(alloc, &[])?,
+        note: sink(alloc, &[])?,
+    };
+    run_over(alloc, texts, rules, readings, outs)
+}
+
+fn run_over(
+    alloc: Global,
+    texts: &[&str],
+    rules: MemSource,
+    readings: MemSource,
+    mut outs: Outputs<MemSink>,
+) -> Result<Ran, AllocError> {
+    let mut ins = Inputs {
+        rules,
+        readings,
+        cert: source(alloc, b"?", &[])?,
+    };
+    let words = words(alloc, texts)?;
+    let status = run(alloc, words.as_slice(), &mut ins, &mut outs);
+    let read_cert = ins.cert.read(&mut [0; 4]) != Ok(1);
+    Ok(Ran {
+        status,
+        out: outs.out,
+        cert: outs.cert,
+        note: outs.note,
+        read_cert,
+    })
+}
+
+fn global(alloc: Global, rules: &[u8], readings: &[u8]) -> Result<Ran, AllocError> {
+    let rules = source(alloc, rules, &[])?;
+    let readings = source(alloc, readings, &[])?;
+    run_with(
+        alloc,
+        &["global", "r", "d", "c"],
+        rules,
+        readings,
+        sink(alloc, &[])?,
+    )
+}
+
+#[test]
+fn readings_that_obey_are_written_unchanged(rt: HostRuntime) -> Result<(), Fail> {
+    let alloc = rt.alloc();
+    for readings in [
+        READINGS,
+        b"time,x\n",
+        // The gap is longer than the window.
+        b"time,x\n0,0\n11,100\n",
+        b"time,x\n0,0\n10,10\n",
+    ] {
+        global(alloc, RULES, readings)?.assert_is(&rt, Status::Done, readings, CERT, b"");
+    }
+    Ok(())
+}
+
+#[test]
+fn readings_that_do_not_obey_need_repair(rt: HostRuntime) -> Result<(), Fail> {
+    let alloc = rt.alloc();
+    let note = b"screen: the readings need repair\n";
+    for readings in [
+        b"time,x\n0,10\n1,11\n2,20\n3,13\n".as_slice(),
+        b"time,x\n0,0\n1,3\n",
+        // The gap is the window.
+        b"time,x\n0,0\n10,11\n",
+        b"time,x\n0,11\n10,0\n",
+    ] {
+        global(alloc, RULES, readings)?.assert_is(&rt, Status::NeedsRepair, b"", b"", note);
+    }
+    Ok(())
+}
+
+#[test]
+fn a_step_is_rounded_down(rt: HostRuntime) -> Result<(), Fail> {
+    let alloc = rt.alloc();
+    // One in three seconds: neighbours may not move.
+    let rules =
+        b"[format]\ndecimals = 0\n[[speed]]\nsensor = \"x\"\nmin = -1\nmax = 1\nper = 3\nwindow = 10\n";
+    let still = b"time,x\n0,0\n1,0\n2,0\n";
+    global(alloc, rules, still)?.assert_is(&rt, Status::Done, still, CERT, b"");
+    let note = b"screen: the readings need repair\n";
+    for moved in [
+        b"time,x\n0,0\n1,0\n2,0\n3,1\n".as_slice(),
+        // Two thirds of a step are none.
+        b"time,x\n0,0\n2,1\n",
+    ] {
+        global(alloc, rules, moved)?.assert_is(&rt, Status::NeedsRepair, b"", b"", note);
+    }
+    Ok(())
+}
+
+#[test]
+fn refusals_are_named(rt: HostRuntime) -> Result<(), Fail> {
+    let alloc = rt.alloc();
+    let note = b"screen: readings refused: NotBuilt, row 0, column 0\n";
+    global(alloc, RULES, b"")?.assert_is(&rt, Status::ReadingsRefused, b"", b"", note);
+    let note = b"screen: rules refused: NotBuilt, rule 0\n";
+    global(alloc, b"", READINGS)?.assert_is(&rt, Status::RulesRefused, b"", b"", note);
+    let note = b"screen: rules refused: Syntax, rule 0\n";
+    global(alloc, b"[[speed]", READINGS)?.assert_is(&rt, Status::RulesRefused, b"", b"", note);
+    Ok(())
+}
+
+fn gives_the_usage(rt: &impl Abort, alloc: Global, texts: &[&str]) -> Result<(), AllocError> {
+    let rules = source(alloc, RULES, &[])?;
+    let readings = source(alloc, READINGS, &[])?;
+    let out = sink(alloc, &[])?;
+    let ran = run_with(alloc, texts, rules, readings, out)?;
+    let usage = b"usage: screen global RULES READINGS CERT\n";
+    ran.assert_is(rt, Status::Usage, b"", b"", usage);
+    Ok(())
+}
+
+#[test]
+fn words_that_are_no_command_give_the_usage(rt: HostRuntime) -> Result<(), Fail> {
+    let alloc = rt.alloc();
+    gives_the_usage(&rt, alloc, &[])?;
+    gives_the_usage(&rt, alloc, &["global", "a", "b"])?;
+    gives_the_usage(&rt, alloc, &["globe", "a", "b", "c"])?;
+    gives_the_usage(&rt, alloc, &["global", "a", "b", "c", "d"])?;
+    Ok(())
+}
+
+#[test]
+fn a_read_that_fails_writes_nothing(rt: HostRuntime) -> Result<(), Fail> {
+    let alloc = rt.alloc();
+    let texts = ["global", "r", "d", "c"];
+    let note = b"screen: a read failed\n";
+    let rules = source(alloc, RULES, &[])?;
+    let readings = source(alloc, READINGS, &[2])?;
+    let out = sink(alloc, &[])?;
+    run_with(alloc, &texts, rules, readings, out)?.assert_is(
+        &rt,
+        Status::ReadFault,
+        b"",
+        b"",
+        note,
+    );
+    let rules = source(alloc, RULES, &[1])?;
+    let readings = source(alloc, READINGS, &[])?;
+    let out = sink(alloc, &[])?;
+    run_with(alloc, &texts, rules, readings, out)?.assert_is(
+        &rt,
+        Status::ReadFault,
+        b"",
+        b"",
+        note,
+    );
+    Ok(())
+}
+
+#[test]
+fn a_write_that_fails_leaves_a_part(rt: HostRuntime) -> Result<(), Fail> {
+    let alloc = rt.alloc();
+    let rules = source(alloc, RULES, &[])?;
+    let readings = source(alloc, READINGS, &[])?;
+    let out = sink(alloc, &[2])?;
+    let ran = run_with(alloc, &["global", "r", "d", "c"], rules, readings, out)?;
+    let note = b"screen: a write failed\n";
+    ran.assert_is(&rt, Status::WriteFault, b"time,x\n0", CERT, note);
+    Ok(())
+}
+
+#[test]
+fn a_certificate_that_fails_keeps_the_readings_back(rt: HostRuntime) -> Result<(), Fail> {
+    let alloc = rt.alloc();
+    let rules = source(alloc, RULES, &[])?;
+    let readings = source(alloc, READINGS, &[])?;
+    let outs = Outputs {
+        out: sink(alloc, &[])?,
+        cert: sink(alloc, &[3])?,
+        note: sink(alloc, &[])?,
+    };
+    let ran = run_over(alloc, &["global", "r", "d", "c"], rules, readings, outs)?;
+    let note = b"screen: a write failed\n";
+    ran.assert_is(&rt, Status::WriteFault, b"", b"screen-cert 1\ncl", note);
+    Ok(())
+}
+
+#[test]
+fn a_note_that_fails_changes_no_status(rt: HostRuntime) -> Result<(), Fail> {
+    let alloc = rt.alloc();
+    let rules = source(alloc, RULES, &[])?;
+    let readings = source(alloc, b"", &[])?;
+    let outs = Outputs {
+        out: sink(alloc, &[])?,
+        cert: sink(alloc, &[])?,
+        note: sink(alloc, &[2])?,
+    };
+    let ran = run_over(alloc, &["global", "r", "d", "c"], rules, readings, outs)?;
+    ran.assert_is(&rt, Status::ReadingsRefused, b"", b"", b"screen: ");
+    Ok(())
+}
+
+#[test]
+fn ends_are_those_of_the_command(rt: HostRuntime) -> Result<(), Fail> {
+    let alloc = rt.alloc();
+    let global = words(alloc, &["global", "r", "d", "c"])?;
+    assert_eq!(rt; command_from(global.as_slice()), Some(Command::Global));
+    let ends = roles(global.as_slice());
+    assert_eq!(rt; ends.rules, EndUse::Word(1));
+    assert_eq!(rt; ends.readings, EndUse::Word(2));
+    assert_eq!(rt; ends.cert_read, EndUse::Nothing);
+    assert_eq!(rt; ends.cert_written, EndUse::Word(3));
+    assert_eq!(rt; ends.out, EndUse::Output);
+    assert_eq!(rt; roles(&[]).out, EndUse::Nothing);
+    Ok(())
+}
+
+#[test]
+fn each_status_has_its_number(rt: HostRuntime) {
+    assert_eq!(rt; Status::Done.code(), 0);
+    assert_eq!(rt; Status::Usage.code(), 2);
+    assert_eq!(rt; Status::RulesRefused.code(), 3);
+    assert_eq!(rt; Status::ReadingsRefused.code(), 4);
+    assert_eq!(rt; Status::ReadFault.code(), 5);
+    assert_eq!(rt; Status::WriteFault.code(), 6);
+    assert_eq!(rt; Status::Memory.code(), 7);
+    assert_eq!(rt; Status::NeedsRepair.code(), 9);
+}
