@@ -1,0 +1,17 @@
+//! Measures proved functions, for `bench/run.sh`. The first word names what is measured.
+#![tactic(auto)]
+
+mod units;
+
+use std::rt::Runtime;
+use std::{env, io};
+
+fn main(rt: HostRuntime) -> io::Result<()> {
+    for word in env::args(&rt)?.skip(1) {
+        match word.as_str() {
+            "units" => units::measure(&rt)?,
+            _ => println!(rt; "{word} is not measured")?,
+        }
+    }
+    Ok(())
+}

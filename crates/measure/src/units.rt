@@ -1,0 +1,74 @@
+use fix_point::{Extra, units};
+use std::alloc::{AllocError, Global};
+use std::io;
+use std::rt::Runtime;
+use std::time::Instant;
+
+const TEXTS: u64 = 10_000_000;
+
+/// Prints the picoseconds that `fix_point::units` takes for a short decimal text, and the sum of the values
+/// of all texts.
+pub fn measure<R: Runtime + AllocGlobal>(rt: &R) -> io::Result<()> {
+    let texts = Texts::make(rt.alloc())?;
+    let began = Instant::now(rt)?;
+    let sum = texts.sum();
+    let nanos = began.elapsed(rt)?.as_nanos();
+    println!(rt; "{} {sum}", nanos.saturating_mul(1000) / u128::from(TEXTS))
+}
+
+/// Texts such as `-123.45`, one after the other, and where each ends.
+#[derive(Drop)]
+struct Texts {
+    bytes: Vec<u8>,
+    ends: Vec<usize>,
+}
+
+impl Texts {
+    /// The same texts in every run: a linear congruential generator draws their digits.
+    fn make(alloc: Global) -> Result<Texts, AllocError> {
+        let mut bytes = Vec::new(alloc);
+        let mut ends = Vec::new(alloc);
+        let mut state: u64 = 1;
+        for _ in 0..TEXTS {
+            state = state.wrapping_mul(1_103_515_245).wrapping_add(12_345) % (1 << 31);
+            if state >> 30 == 1 {
+                bytes.push(b'-')?;
+            }
+            push_hundredths(&mut bytes, (state >> 8) % 100_000)?;
+            ends.push(bytes.len())?;
+        }
+        Ok(Texts { bytes, ends })
+    }
+
+    /// The sum of the values with two decimals; a text that is refused counts 0.
+    fn sum(&self) -> i64 {
+        let mut sum: i64 = 0;
+        let mut from = 0;
+        for end in &self.ends {
+            let text = self.bytes.get(from..*end).unwrap_or(&[]);
+            sum = sum.wrapping_add(units(text, 2, Extra::Refuse).unwrap_or(0));
+            from = *end;
+        }
+        sum
+    }
+}
+
+/// Adds a number of hundredths as a text with two decimals.
+fn push_hundredths(bytes: &mut Vec<u8>, number: u64) -> Result<(), AllocError> {
+    if number >= 10_000 {
+        bytes.push(digit(number / 10_000))?;
+    }
+    if number >= 1_000 {
+        bytes.push(digit(number / 1_000))?;
+    }
+    bytes.push(digit(number / 100))?;
+    bytes.push(b'.')?;
+    bytes.push(digit(number / 10))?;
+    bytes.push(digit(number))?;
+    Ok(())
+}
+
+/// The last digit of a number.
+fn digit(number: u64) -> u8 {
+    b'0' + (number % 10) as u8
+}
