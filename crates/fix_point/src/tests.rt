@@ -95,6 +95,20 @@ fn the_greatest_sizes(rt: HostRuntime) {
 }
 
 #[test]
+fn the_greatest_units_at_every_decimal(rt: HostRuntime) {
+    let mut greatest = *b"1000000000000000e-0";
+    let mut past = *b"-1000000000000001e-0";
+    for d in 0..10u8 {
+        greatest[18] = b'0' + d;
+        past[19] = b'0' + d;
+        let d = u32::from(d);
+        assert_eq!(rt; units(&greatest, d, Refuse), Ok(1_000_000_000_000_000));
+        assert_eq!(rt; units(&past, d, Refuse), Err(OutOfRange));
+        assert_eq!(rt; units(&past, d, Round), Err(OutOfRange));
+    }
+}
+
+#[test]
 fn numbers_as_texts(rt: HostRuntime) -> Result<(), Fail> {
     let rows: [(i128, u32, &[u8]); 7] = [
         (-5, 2, b"-0.05"),
