@@ -1,6 +1,8 @@
 //! Measures proved functions, for `bench/run.sh`. The first word names what is measured.
 #![tactic(auto)]
 
+mod records;
+mod texts;
 mod units;
 
 use std::rt::Runtime;
@@ -9,6 +11,7 @@ use std::{env, io};
 fn main(rt: HostRuntime) -> io::Result<()> {
     for word in env::args(&rt)?.skip(1) {
         match word.as_str() {
+            "records" => records::measure(&rt)?,
             "units" => units::measure(&rt)?,
             _ => println!(rt; "{word} is not measured")?,
         }

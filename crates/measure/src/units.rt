@@ -1,3 +1,4 @@
+use crate::texts::{next_hundredths, push_hundredths};
 use fix_point::{Extra, units};
 use std::alloc::{AllocError, Global};
 use std::io;
@@ -24,17 +25,17 @@ struct Texts {
 }
 
 impl Texts {
-    /// The same texts in every run: a linear congruential generator draws their digits.
     fn make(alloc: Global) -> Result<Texts, AllocError> {
         let mut bytes = Vec::new(alloc);
         let mut ends = Vec::new(alloc);
         let mut state: u64 = 1;
         for _ in 0..TEXTS {
-            state = state.wrapping_mul(1_103_515_245).wrapping_add(12_345) % (1 << 31);
+            let (next, number) = next_hundredths(state);
+            state = next;
             if state >> 30 == 1 {
                 bytes.push(b'-')?;
             }
-            push_hundredths(&mut bytes, (state >> 8) % 100_000)?;
+            push_hundredths(&mut bytes, number)?;
             ends.push(bytes.len())?;
         }
         Ok(Texts { bytes, ends })
@@ -51,24 +52,4 @@ impl Texts {
         }
         sum
     }
-}
-
-/// Adds a number of hundredths as a text with two decimals.
-fn push_hundredths(bytes: &mut Vec<u8>, number: u64) -> Result<(), AllocError> {
-    if number >= 10_000 {
-        bytes.push(digit(number / 10_000))?;
-    }
-    if number >= 1_000 {
-        bytes.push(digit(number / 1_000))?;
-    }
-    bytes.push(digit(number / 100))?;
-    bytes.push(b'.')?;
-    bytes.push(digit(number / 10))?;
-    bytes.push(digit(number))?;
-    Ok(())
-}
-
-/// The last digit of a number.
-fn digit(number: u64) -> u8 {
-    b'0' + (number % 10) as u8
 }

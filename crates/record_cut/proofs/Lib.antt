@@ -1,0 +1,12 @@
+mod Examples
+pub mod Cuts
+pub mod Endings
+pub mod Finishing
+pub mod Grammar
+pub mod Openings
+pub mod RoundTrip
+pub mod Rows
+pub mod Splits
+pub mod Standing
+pub mod Steps
+pub mod Within

@@ -1,0 +1,11 @@
+pub mod Bytes
+pub mod Drafted
+pub mod Field
+pub mod Moves
+pub mod Reading
+pub mod Record
+pub mod Records
+pub mod RoundTrip
+pub mod Row
+pub mod Split
+pub mod StandsFor

@@ -1,0 +1,45 @@
+ghost use Rattle.std.specs.Prelude.{◌≡◌, ℕ, ◌<◌, ◌+◌, ◌^◌, List, [], ◌∷◌, ◌++◌, length, OnOk, OnErr, slice_index_or};
+ghost use Rattle.record_cut.specs.Split.{pieces, Rises, starts_at};
+
+use std::alloc::AllocError;
+
+/// Adds a field at the end of those that end at these places.
+pub(crate) fn push_piece(
+    bytes: &mut Vec<u8>,
+    ends: &mut Vec<usize>,
+    field: &[u8],
+) -> Result<(), AllocError>
+    requires { Rises 0 ends.old.items (length bytes.old.items) }
+    ensures ok { OnOk result
+        (pieces bytes.new.items 0 ends.new.items ≡ pieces bytes.old.items 0 ends.old.items ++ field.now ∷ []) }
+    ensures err { OnErr result
+        (pieces bytes.new.items 0 ends.new.items ≡ pieces bytes.old.items 0 ends.old.items) }
+    ensures rises { Rises 0 ends.new.items (length bytes.new.items) }
+    ensures one_more { OnOk result (length ends.new.items ≡ length ends.old.items + 1) }
+    ensures no_more { OnErr result (length ends.new.items ≡ length ends.old.items) }
+{
+    let len = bytes.len();
+    bytes.extend_from_slice(field)?;
+    if let Err(failed) = ends.push(bytes.len()) {
+        bytes.truncate(len);
+        return Err(failed.into());
+    }
+    Ok(())
+}
+
+/// The field at this place, of those that end at these places.
+pub(crate) fn piece_at<'a>(bytes: &'a [u8], ends: &[usize], i: usize) -> &'a [u8]
+    requires rises { Rises 0 ends.now (length bytes.now) }
+    requires within { i < length ends.now }
+    ensures { result.now ≡ slice_index_or (pieces bytes.now 0 ends.now) i result.now }
+{
+    &bytes[start_at(ends, i)..ends[i]]
+}
+
+/// Where the field at this place begins.
+fn start_at(ends: &[usize], i: usize) -> usize
+    requires { i < length ends.now }
+    ensures { result ≡ starts_at 0 ends.now i }
+{
+    if i == 0 { 0 } else { ends[i - 1] }
+}
