@@ -2,10 +2,10 @@
 # Runs a proved function and its plain twin in turn on the same inputs, and prints the best time of each for
 # one item and the ratio of the proved time to the plain one.
 #
-# usage: bench/run.sh units [ROUNDS]
+# usage: bench/run.sh units|records [ROUNDS]
 set -euo pipefail
 cd "$(dirname "$0")/.."
-what=${1:?usage: bench/run.sh units [ROUNDS]}
+what=${1:?usage: bench/run.sh units|records [ROUNDS]}
 rounds=${2:-5}
 
 mkdir -p bench/out

@@ -128,17 +128,33 @@ impl Cutter {
         self.fields.ends.push(self.fields.bytes.len());
         self.phase = Phase::Record;
         self.count = 0;
-        std::mem::replace(&mut self.fields, Fields::new())
+        let next = Fields {
+            bytes: Vec::with_capacity(self.fields.bytes.len()),
+            ends: Vec::with_capacity(self.fields.ends.len()),
+        };
+        std::mem::replace(&mut self.fields, next)
     }
 
     fn finish(&mut self) -> Result<Option<Fields>, Fault> {
-        match self.phase {
-            Phase::Refused(fault) => Err(fault),
-            Phase::Mark(0) | Phase::Record => Ok(None),
-            Phase::Quoted => Err(Fault::OpenQuote),
-            Phase::QuotedCr => Err(Fault::BadQuote),
-            _ => Ok(Some(self.end_record())),
-        }
+        let fault = match self.phase {
+            Phase::Refused(fault) => fault,
+            Phase::Quoted => Fault::OpenQuote,
+            Phase::QuotedCr => Fault::BadQuote,
+            Phase::Mark(0) | Phase::Record => {
+                self.phase = Phase::Mark(0);
+                return Ok(None);
+            }
+            phase => {
+                if phase == Phase::PlainCr {
+                    self.fields.bytes.push(b'\r');
+                }
+                let fields = self.end_record();
+                self.phase = Phase::Mark(0);
+                return Ok(Some(fields));
+            }
+        };
+        self.phase = Phase::Refused(fault);
+        Err(fault)
     }
 }
 

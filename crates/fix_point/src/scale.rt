@@ -33,7 +33,12 @@ pub enum NumFault {
     OutOfRange,
 }
 
-/// The number of a text times 10^d, as a whole number of at most this size.
+/// The number of a text times 10^d, as a whole number: units of 10^-d, at most `most` in size.
+///
+/// A number text is: spaces and tabs; `+`, `-` or nothing; 1 to 30 digits, perhaps with one point before,
+/// among or behind them; perhaps `e` or `E`, a sign or none, and one to three digits; spaces and tabs. It
+/// has at most 64 bytes. With `Extra::Round` the nearest whole number is taken, and of two that are as
+/// near the one further from 0. It takes no memory.
 ///
 /// # Errors
 ///

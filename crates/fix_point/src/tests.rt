@@ -95,16 +95,22 @@ fn the_greatest_sizes(rt: HostRuntime) {
 }
 
 #[test]
-fn the_greatest_units_at_every_decimal(rt: HostRuntime) {
+fn the_greatest_sizes_at_every_decimal(rt: HostRuntime) {
     let mut greatest = *b"1000000000000000e-0";
-    let mut past = *b"-1000000000000001e-0";
+    let mut past = *b"1000000000000001e-0";
+    let mut least = *b"-9000000000000000000e-0";
+    let mut beyond = *b"-9000000000000000001e-0";
     for d in 0..10u8 {
         greatest[18] = b'0' + d;
-        past[19] = b'0' + d;
+        past[18] = b'0' + d;
+        least[22] = b'0' + d;
+        beyond[22] = b'0' + d;
         let d = u32::from(d);
         assert_eq!(rt; units(&greatest, d, Refuse), Ok(1_000_000_000_000_000));
         assert_eq!(rt; units(&past, d, Refuse), Err(OutOfRange));
         assert_eq!(rt; units(&past, d, Round), Err(OutOfRange));
+        assert_eq!(rt; scaled(&least, d, Refuse, GREATEST), Ok(-GREATEST));
+        assert_eq!(rt; scaled(&beyond, d, Refuse, GREATEST), Err(OutOfRange));
     }
 }
 

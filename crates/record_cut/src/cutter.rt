@@ -33,7 +33,8 @@ impl Cutter {
     ghost use Rattle.record_cut.specs.StandsFor.{StandsFor, HasRefused, HasBegun, Feeds, Ends};
     ghost use Rattle.record_cut.specs.declared.fault.CutFault.{CutFault};
 
-    /// A cutter that has read nothing. It takes no memory.
+    /// A cutter that has read nothing, of a text whose fields `sep` separates: a comma, a semicolon, a tab
+    /// or a vertical bar. It takes no memory.
     pub fn new(alloc: Global, sep: u8) -> Cutter
         requires { IsTrue (is_separator sep) }
         ensures { StandsFor result sep [] }
@@ -49,6 +50,9 @@ impl Cutter {
 
     /// Reads the next byte of the text. At the line feed that ends a record it answers that record's
     /// fields; an empty line is no record.
+    ///
+    /// `BadQuote` and `RecordTooLong` come at the byte that is wrong, `Memory` at any byte, and each for
+    /// ever after.
     pub fn feed(&mut self, byte: u8) -> Result<Option<Fields>, CutFault>
         ensures feeds { (sep : ℕ) (bytes : List ℕ)
             → StandsFor self.old sep bytes → Feeds sep bytes byte result self.new }
@@ -67,6 +71,9 @@ impl Cutter {
 
     /// The text has ended. Where bytes of a record stand after the last line break, it answers that
     /// record's fields. After an answer without a refusal the cutter is as new.
+    ///
+    /// `OpenQuote` comes where a quoted field is not closed, `BadQuote` where the last byte is a carriage
+    /// return behind a closing quote.
     pub fn finish(&mut self) -> Result<Option<Fields>, CutFault>
         ensures ends { (sep : ℕ) (bytes : List ℕ)
             → StandsFor self.old sep bytes → Ends sep bytes result self.new }

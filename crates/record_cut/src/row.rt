@@ -1,5 +1,4 @@
-ghost use Rattle.std.specs.Prelude.{◌≡◌, ◌<◌, ◌++◌, length, drop, IfOk, OnOk, IsTrue};
-ghost use Rattle.record_cut.specs.Bytes.{is_separator};
+ghost use Rattle.std.specs.Prelude.{◌≡◌, ◌<◌, ◌++◌, length, drop, IfOk, OnOk};
 ghost use Rattle.record_cut.specs.RoundTrip.{RoundTrip};
 ghost use Rattle.record_cut.specs.Row.{holds_special, begins_with_mark, doubled_if_quote, doubled, field_text, first_in_quotes, text_of_others, text_of_row};
 
@@ -7,11 +6,10 @@ use crate::bytes::{CARRIAGE_RETURN, LINE_FEED, MARK, QUOTE};
 use crate::fields::Fields;
 use std::alloc::{AllocError, Global};
 
-/// The fields as one record of CSV text, with its line feed. A field is written in quotes only where it
-/// would not be read back as it is.
+/// The fields as one record of CSV text, with `sep` between them and a line feed at the end. A field is
+/// written in quotes only where it would not be read back as it is.
 pub fn row_text(alloc: Global, fields: &Fields, sep: u8) -> Result<Vec<u8>, AllocError>
-    requires some { 0 < length fields.now }
-    requires separator { IsTrue (is_separator sep) }
+    requires { 0 < length fields.now }
     ensures { IfOk result (λ text. text.items ≡ text_of_row sep fields.now) }
 {
     let mut text = Vec::new(alloc);

@@ -76,6 +76,7 @@ fn records_end_at_line_breaks_outside_quotes(rt: HostRuntime) -> Result<(), Fail
         (b"\"\"", b"||[]"),
         (b"\"a,\r\nb\"\"c\",d\n", b"|[a,\r\nb\"c][d]"),
         (b"\"a\"\r\n", b"|[a]"),
+        (b"\"a\"\"b\"\n", b"|[a\"b]"),
         (b"a\rb\r\n\r", b"|[a\rb]||[\r]"),
         (b"\rb\n", b"|[\rb]"),
         (b"a\r\r\n", b"|[a\r]"),
@@ -91,6 +92,10 @@ fn a_mark_is_dropped_only_whole_and_only_first(rt: HostRuntime) -> Result<(), Fa
         (b"\xEF\xBB\xBF".as_slice(), b"".as_slice()),
         (b"\xEF\xBB\xBFa\n", b"|[a]"),
         (b"\xEF\xBB\xBF\"a\"\n", b"|[a]"),
+        (
+            b"\xEF\xBB\xBFtime,x,note\r\n0,10,\"a, b\"\r\n",
+            b"|[time][x][note]|[0][10][a, b]",
+        ),
         (b"\xEF\xBB\xBF\xEF\xBB\xBF\n", b"|[\xEF\xBB\xBF]"),
         (b"\n\xEF\xBB\xBF\n", b"|[\xEF\xBB\xBF]"),
         (b"\xEF\xBB", b"||[\xEF\xBB]"),
@@ -119,6 +124,7 @@ fn a_refusal_comes_at_its_byte(rt: HostRuntime) -> Result<(), Fail> {
         (b"\xEF\xBB\"", b"", CutFault::BadQuote, 2),
         (b"a\n\"b,\n", b"|[a]", CutFault::OpenQuote, 6),
         (b"\"", b"", CutFault::OpenQuote, 1),
+        (b"a,\"b", b"", CutFault::OpenQuote, 4),
         (b"\"a\"\"", b"", CutFault::OpenQuote, 4),
     ] {
         expect(&rt, rt.alloc(), text, records, Some((fault, at)))?;
@@ -191,6 +197,10 @@ fn a_row_is_quoted_only_where_it_must_be(rt: HostRuntime) -> Result<(), Fail> {
         (
             [b"a\rb".as_slice(), b"c\nd"].as_slice(),
             b"\"a\rb\",\"c\nd\"\n",
+        ),
+        (
+            [b"0".as_slice(), b"10", b"a, b"].as_slice(),
+            b"0,10,\"a, b\"\n",
         ),
         ([b"".as_slice()].as_slice(), b"\"\"\n"),
         ([b"".as_slice(), b""].as_slice(), b",\n"),
