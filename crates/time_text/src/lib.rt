@@ -10,6 +10,7 @@ mod trim;
 
 pub use form::{TimeFault, TimeForm};
 pub use read::ticks;
+pub use trim::trimmed_text;
 
 #[cfg(test)]
 mod tests;

@@ -34,8 +34,8 @@ fn without_trailing(text: &[u8]) -> &[u8]
     rest
 }
 
-// The text without the spaces and tabs at both ends.
-pub(crate) fn trimmed_text(text: &[u8]) -> &[u8]
+/// The text without the spaces and tabs at both ends. Takes no memory.
+pub fn trimmed_text(text: &[u8]) -> &[u8]
     ensures { result.now ≡ trimmed text.now }
 {
     without_trailing(without_leading(text))

@@ -1,0 +1,6 @@
+pub mod Entries
+pub mod Keys
+pub mod Seen
+pub mod Words
+pub mod Values
+pub mod Reading

@@ -1,0 +1,86 @@
+-- What a table of a rule file is read as: its entries, or the first cause to refuse it.
+use Rattle.std.specs.Prelude.{◌≡◌, ◌≢◌, ◌⊎◌, ℕ, ◌*◌, ◌^◌, ◌≤◌, ℤ, pos, ◌≤ℤ◌, List, [], ◌∷◌, map, Option, Some, None, Result, Ok, Err, unsigned_abs, Contains}
+use Rattle.std.specs.List.{AllByRecursion}
+use Rattle.toml.specs.Data.{Data, Members, no_members, member, get_member}
+use Rattle.rule_keys.specs.declared.cause.RuleCause.{RuleCause}
+use Rattle.rule_keys.specs.declared.cause.RuleCause.TheVariants.{UnknownKey, MissingKey, ReachTooLarge, SameSensor, Memory}
+use Rattle.rule_keys.specs.declared.cause.RuleCause.TheVariants as cause
+use Rattle.rule_keys.specs.declared.key.TableKind.{TableKind}
+use Rattle.rule_keys.specs.declared.key.KeyName.{KeyName}
+use Rattle.rule_keys.specs.declared.key.KeyName.TheVariants.{Per, Window}
+use Rattle.rule_keys.specs.declared.key.Absent.{Absent}
+use Rattle.rule_keys.specs.declared.key.Absent.TheVariants.{Refused, Number, NoName}
+use Rattle.rule_keys.specs.declared.key.Check.{Check}
+use Rattle.rule_keys.specs.declared.key.Check.TheVariants.{Order, Reach, Differ}
+use Rattle.rule_keys.specs.declared.key.Key.{Key}
+use Rattle.rule_keys.specs.declared.read.Scale.{Scale}
+use Rattle.rule_keys.specs.Entries.{Meaning, number, no_name, number_at, name_at}
+use Rattle.rule_keys.specs.Keys.{keys_of, checks_of}
+use Rattle.rule_keys.specs.Values.{ReadsValue}
+use Rattle.rule_keys.specs.Words.{key_text}
+
+-- what a reader answers, unless memory ran out
+abbrev pub Told : {A : Type 0} → (Result A RuleCause → Type 0) → Result A RuleCause → Type 0
+Told Reads answer = answer ≢ Err Memory → Reads answer
+
+-- each member has a key of these
+abbrev pub HasOnly : List (List ℕ) → Members → Type 0
+HasOnly keys no_members = Unit {0}
+HasOnly keys (member key value members) = Contains keys key × HasOnly keys members
+
+-- what is taken where the key is absent
+abbrev pub ReadsAbsent : Absent → Result Meaning RuleCause → Type 0
+ReadsAbsent Refused answer = answer ≡ Err MissingKey
+ReadsAbsent (Number z) answer = answer ≡ Ok (number z)
+ReadsAbsent NoName answer = answer ≡ Ok no_name
+
+-- what is read at a key, if something stands there
+abbrev pub ReadsFound : Scale → Key → Option Data → Result Meaning RuleCause → Type 0
+ReadsFound scale key None answer = ReadsAbsent key.absent answer
+ReadsFound scale key (Some value) answer = ReadsValue scale key.kind value answer
+
+abbrev pub ReadsKey : Scale → Members → Key → Result Meaning RuleCause → Type 0
+ReadsKey scale members key answer = ReadsFound scale key (get_member (key_text key.name) members) answer
+
+-- The keys one after the other: an entry for each, or the cause at the first that is refused.
+abbrev pub ReadsKeys : Scale → Members → List Key → Result (List (KeyName × Meaning)) RuleCause → Type 0
+ReadsKeys scale members [] answer = answer ≡ Ok []
+ReadsKeys scale members (key ∷ keys) (Ok []) = ⊥
+ReadsKeys scale members (key ∷ keys) (Ok (entry ∷ entries)) =
+    (entry.0 ≡ key.name) × ReadsKey scale members key (Ok entry.1) × ReadsKeys scale members keys (Ok entries)
+ReadsKeys scale members (key ∷ keys) (Err cause) =
+    ReadsKey scale members key (Err cause)
+    ⊎ ((meaning : Meaning) × ReadsKey scale members key (Ok meaning) × ReadsKeys scale members keys (Err cause))
+
+-- a rate of so many millionths for each `per` seconds allows at most 4·10^15 units of 10^-d within the window
+abbrev pub Reaches : ℕ → ℤ → ℤ → ℤ → Type 0
+Reaches d millionths per window = unsigned_abs millionths * 10 ^ d * unsigned_abs window ≤ 4 * 10 ^ 30 * unsigned_abs per
+
+abbrev pub Passes : ℕ → List (KeyName × Meaning) → Check → Type 0
+Passes d entries (Order low high) = number_at low entries ≤ℤ number_at high entries
+Passes d entries (Reach rate) = Reaches d (number_at rate entries) (number_at Per entries) (number_at Window entries)
+Passes d entries (Differ first second) = name_at first entries ≢ name_at second entries
+
+abbrev pub cause_of : Check → RuleCause
+cause_of (Order _ _) = cause.Order
+cause_of (Reach _) = ReachTooLarge
+cause_of (Differ _ _) = SameSensor
+
+-- the first check that does not pass has this cause
+abbrev pub Fails : ℕ → List (KeyName × Meaning) → List Check → RuleCause → Type 0
+Fails d entries [] found = ⊥
+Fails d entries (check ∷ checks) found =
+    ((¬ Passes d entries check) × (found ≡ cause_of check)) ⊎ (Passes d entries check × Fails d entries checks found)
+
+-- what the checks leave of the answer so far
+abbrev pub Checked : ℕ → List Check → (Result (List (KeyName × Meaning)) RuleCause → Type 0) → Result (List (KeyName × Meaning)) RuleCause → Type 0
+Checked d checks Reads (Ok entries) = Reads (Ok entries) × AllByRecursion (Passes d entries) checks
+Checked d checks Reads (Err found) =
+    Reads (Err found) ⊎ ((entries : List (KeyName × Meaning)) × Reads (Ok entries) × Fails d entries checks found)
+
+-- what a table of this kind is read as
+abbrev pub Reads : Scale → TableKind → Members → Result (List (KeyName × Meaning)) RuleCause → Type 0
+Reads scale kind members answer =
+    ((¬ HasOnly (map (λ key. key_text key.name) (keys_of kind)) members) × (answer ≡ Err UnknownKey))
+    ⊎ (HasOnly (map (λ key. key_text key.name) (keys_of kind)) members
+    × Checked scale.decimals (checks_of kind) (ReadsKeys scale members (keys_of kind)) answer)

@@ -1,0 +1,98 @@
+-- What stands at a key, as the number or the name that it means.
+use Rattle.std.specs.Prelude.{◌≡◌, ◌⊎◌, ℕ, zero, suc, ◌*◌, ◌^◌, ◌<◌, ◌≤◌, ℤ, pos, ◌*ℤ◌, ◌≤ℤ◌, ◌<ℤ◌, List, [], ◌∷◌, Result, Ok, Err, unsigned_abs}
+use Rattle.std.specs.Fmt.{signed_decimal}
+use Rattle.toml.specs.Data.{Data, string, integer, float, boolean, datetime, array, table}
+use Rattle.fix_point.specs.Scaled.{IsScaled}
+use Rattle.fix_point.specs.Scaled as Scaled
+use Rattle.fix_point.specs.declared.scale.NumFault.{NumFault}
+use Rattle.fix_point.specs.declared.scale.Extra.TheVariants.{Refuse}
+use Rattle.time_text.specs.Ticks.{IsTicks}
+use Rattle.time_text.specs.Ticks as Ticks
+use Rattle.time_text.specs.Trimmed.{trimmed}
+use Rattle.time_text.specs.declared.form.TimeForm.{TimeForm}
+use Rattle.time_text.specs.declared.form.TimeForm.TheVariants.{Sec, Milli, Micro, Nano, Instant, Civil}
+use Rattle.time_text.specs.declared.form.TimeFault.{TimeFault}
+use Rattle.rule_keys.specs.declared.cause.RuleCause.{RuleCause}
+use Rattle.rule_keys.specs.declared.cause.RuleCause.TheVariants.{WrongKind, BadNumber, OutOfLimit}
+use Rattle.rule_keys.specs.declared.key.Kind.{Kind}
+use Rattle.rule_keys.specs.declared.key.Kind.TheVariants.{Whole, Value, Amount, Rate, Span, Moment, Name, Word}
+use Rattle.rule_keys.specs.declared.key.Choice.{Choice}
+use Rattle.rule_keys.specs.declared.read.Scale.{Scale}
+use Rattle.rule_keys.specs.Entries.{Meaning, number, name, no_name}
+use Rattle.rule_keys.specs.Words.{words}
+
+-- The answer is a value that is good, or this cause where something is bad.
+abbrev pub Answers : {A : Type 0} → (A → Type 0) → RuleCause → Type 0 → Result A RuleCause → Type 0
+Answers Good cause Bad (Ok value) = Good value
+Answers Good cause Bad (Err found) = (found ≡ cause) × Bad
+
+-- a number, unless it is less than the least
+abbrev pub AtLeast : ℤ → (Result ℤ RuleCause → Type 0) → Result ℤ RuleCause → Type 0
+AtLeast least Reads (Ok z) = Reads (Ok z) × (least ≤ℤ z)
+AtLeast least Reads (Err cause) = Reads (Err cause) ⊎ ((cause ≡ OutOfLimit) × (z : ℤ) × Reads (Ok z) × (z <ℤ least))
+
+-- a TOML integer within limits
+abbrev pub ReadsWhole : ℤ → ℤ → Data → Result ℤ RuleCause → Type 0
+ReadsWhole least most (integer z) answer = Answers (λ w. (w ≡ z) × (least ≤ℤ z) × (z ≤ℤ most)) OutOfLimit ((z <ℤ least) ⊎ (most <ℤ z)) answer
+ReadsWhole least most _ answer = answer ≡ Err WrongKind
+
+-- The number of units of 10^-d: of a TOML integer, which is that many wholes, or of a number text, which may
+-- have no more decimals. It is at most so great in size.
+abbrev pub ReadsScaled : ℕ → ℕ → Data → Result ℤ RuleCause → Type 0
+ReadsScaled d most (integer z) answer =
+    Answers (λ w. (w ≡ z *ℤ pos (10 ^ d)) × (unsigned_abs w ≤ most)) BadNumber (most < unsigned_abs (z *ℤ pos (10 ^ d))) answer
+ReadsScaled d most (string text) answer =
+    Answers (IsScaled text d Refuse (pos most)) BadNumber ((fault : NumFault) × Scaled.Refuses text d Refuse (pos most) fault) answer
+ReadsScaled d most _ answer = answer ≡ Err WrongKind
+
+-- The ticks of a time text in the form.
+abbrev pub ReadsTime : TimeForm → List ℕ → Result ℤ RuleCause → Type 0
+ReadsTime form text answer = Answers (IsTicks form text) BadNumber ((fault : TimeFault) × Ticks.Refuses form text fault) answer
+
+-- A TOML integer stands for its text where times are numbers.
+abbrev pub ReadsInteger : TimeForm → ℤ → Result ℤ RuleCause → Type 0
+ReadsInteger Instant z answer = answer ≡ Err WrongKind
+ReadsInteger Civil z answer = answer ≡ Err WrongKind
+ReadsInteger form z answer = ReadsTime form (signed_decimal z) answer
+
+abbrev pub ReadsMoment : TimeForm → Data → Result ℤ RuleCause → Type 0
+ReadsMoment form (string text) answer = ReadsTime form text answer
+ReadsMoment form (integer z) answer = ReadsInteger form z answer
+ReadsMoment form _ answer = answer ≡ Err WrongKind
+
+-- the word has this place among the words, counted from 0
+abbrev pub IsWordAt : List (List ℕ) → List ℕ → ℕ → Type 0
+IsWordAt [] word place = ⊥
+IsWordAt (w ∷ others) word zero = word ≡ w
+IsWordAt (w ∷ others) word (suc place) = IsWordAt others word place
+
+abbrev pub ReadsWord : Choice → Data → Result ℤ RuleCause → Type 0
+ReadsWord choice (string word) answer =
+    Answers (λ z. (place : ℕ) × (z ≡ pos place) × IsWordAt (words choice) word place) OutOfLimit ((place : ℕ) → IsWordAt (words choice) word place → ⊥) answer
+ReadsWord choice _ answer = answer ≡ Err WrongKind
+
+-- the number that stands at a key
+abbrev pub ReadsNumber : Scale → Kind → Data → Result ℤ RuleCause → Type 0
+ReadsNumber scale (Whole least most) found answer = ReadsWhole least most found answer
+ReadsNumber scale Value found answer = ReadsScaled scale.decimals (10 ^ 15) found answer
+ReadsNumber scale Amount found answer = AtLeast (pos 0) (ReadsScaled scale.decimals (10 ^ 15) found) answer
+ReadsNumber scale Rate found answer = ReadsScaled 6 (10 ^ 15) found answer
+ReadsNumber scale Span found answer = AtLeast (pos 1) (ReadsScaled 9 (10 ^ 17) found) answer
+ReadsNumber scale Moment found answer = ReadsMoment scale.form found answer
+ReadsNumber scale (Word choice) found answer = ReadsWord choice found answer
+ReadsNumber scale Name found answer = ⊥
+
+-- what stands at a key of this kind
+abbrev pub ReadsName : Data → Result Meaning RuleCause → Type 0
+ReadsName (string text) answer = answer ≡ Ok (name (trimmed text))
+ReadsName _ answer = answer ≡ Err WrongKind
+
+abbrev pub AsNumber : (Result ℤ RuleCause → Type 0) → Result Meaning RuleCause → Type 0
+AsNumber Reads (Ok (number z)) = Reads (Ok z)
+AsNumber Reads (Ok (name s)) = ⊥
+AsNumber Reads (Ok no_name) = ⊥
+AsNumber Reads (Err cause) = Reads (Err cause)
+
+abbrev pub ReadsValue : Scale → Kind → Data → Result Meaning RuleCause → Type 0
+ReadsValue scale Name found answer = ReadsName found answer
+ReadsValue scale kind found answer = AsNumber (ReadsNumber scale kind found) answer

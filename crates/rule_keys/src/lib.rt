@@ -1,0 +1,13 @@
+//! The tables of a rule file: which keys each has, what may stand at them, and what is read there.
+#![tactic(auto)]
+
+mod cause;
+mod entries;
+mod key;
+mod keys;
+mod read;
+
+pub use cause::RuleCause;
+pub use entries::Entries;
+pub use key::{Absent, Check, Choice, Key, KeyName, Kind, TableKind};
+pub use read::{Scale, read_table};
