@@ -1,20 +1,94 @@
--- The table of a rule file.
-use Rattle.std.specs.Prelude.{pos, codes}
-use Rattle.toml.specs.Data.{Members, no_members, member, no_items, item, integer, string, array, table}
-use Rattle.rule_file.specs.declared.rules.SpeedRule.{SpeedRule}
+-- What the table of a rule file is read as: its rules, or the first fault.
+use Rattle.std.specs.Prelude.{◌≡◌, ◌⊎◌, ℕ, ◌+◌, ◌<◌, ◌≤◌, List, [], ◌∷◌, ◌++◌, length, map, Option, Some, None, Result, Ok, Err, codes, option_map}
+use Rattle.toml.specs.Data.{Data, string, integer, float, boolean, datetime, array, table, Items, no_items, item, Members, get_member}
+use Rattle.time_text.specs.declared.form.TimeForm.TheVariants.{Sec}
+use Rattle.rule_keys.specs.declared.cause.RuleCause.{RuleCause}
+use Rattle.rule_keys.specs.declared.cause.RuleCause.TheVariants.{UnknownKey, MissingKey, WrongKind, TooMany}
+use Rattle.rule_keys.specs.declared.key.TableKind.{TableKind}
+use Rattle.rule_keys.specs.declared.key.TableKind.TheVariants.{Format, Speed, Swing, Drift, Range, Trust, Weight, Between}
+use Rattle.rule_keys.specs.declared.read.Scale.{Scale}
+use Rattle.rule_keys.specs.Reading.{HasOnly, Reads}
+use Rattle.rule_file.specs.declared.fault.RuleFault.{RuleFault}
 use Rattle.rule_file.specs.declared.rules.Rules.{Rules}
+use Rattle.rule_file.specs.Meaning.{Entries, scale_of, IsFormatOf, AreRulesOf}
 
--- the keys of a speed rule, in the order of their bytes
-abbrev pub speed_table : SpeedRule → Members
-speed_table rule =
-    member (codes "max") (integer rule.max)
-    (member (codes "min") (integer rule.min)
-    (member (codes "per") (integer (pos rule.per))
-    (member (codes "sensor") (string rule.sensor)
-    (member (codes "window") (integer (pos rule.window)) no_members))))
+abbrev pub kind_text : TableKind → List ℕ
+kind_text Format = codes "format"
+kind_text Speed = codes "speed"
+kind_text Swing = codes "swing"
+kind_text Drift = codes "drift"
+kind_text Range = codes "range"
+kind_text Trust = codes "trust"
+kind_text Weight = codes "weight"
+kind_text Between = codes "between"
 
--- the format has no decimals, and there is the one speed rule
-abbrev pub document : Rules → Members
-document rules =
-    member (codes "format") (table (member (codes "decimals") (integer (pos 0)) no_members))
-    (member (codes "speed") (array (item (table (speed_table rules.speed)) no_items)) no_members)
+-- the kinds of rules, in the order of their numbers
+abbrev pub rule_kinds : List TableKind
+rule_kinds = Speed ∷ Swing ∷ Drift ∷ Range ∷ Trust ∷ Weight ∷ Between ∷ []
+
+-- a fault of no numbered rule
+abbrev pub of_the_file : RuleCause → RuleFault
+of_the_file cause = record { cause = cause; rule = 0 }
+
+-- the tables of an array, each with its kind, and none where a member is no table
+abbrev pub tables_in : TableKind → Items → Option (List (TableKind × Members))
+tables_in kind no_items = Some []
+tables_in kind (item (table members) items) = option_map (λ others. (kind, members) ∷ others) (tables_in kind items)
+tables_in kind (item _ items) = None
+
+-- the tables of a kind; an absent key has none, and what is no array is wrong
+abbrev pub tables_of : TableKind → Option Data → Option (List (TableKind × Members))
+tables_of kind None = Some []
+tables_of kind (Some (array items)) = tables_in kind items
+tables_of kind (Some _) = None
+
+abbrev pub joined : {A : Type 0} → Option (List A) → Option (List A) → Option (List A)
+joined (Some xs) (Some ys) = Some (xs ++ ys)
+joined (Some xs) None = None
+joined None rest = None
+
+-- the tables of all rules in the order of their numbers
+abbrev pub rule_tables : List TableKind → Members → Option (List (TableKind × Members))
+rule_tables [] members = Some []
+rule_tables (kind ∷ kinds) members = joined (tables_of kind (get_member (kind_text kind) members)) (rule_tables kinds members)
+
+-- The rules one after the other, the first with the number given: what each is read as, or the cause of the
+-- first that is refused, with its number.
+abbrev pub ReadsRules : Scale → ℕ → List (TableKind × Members) → Result (List (TableKind × Entries)) RuleFault → Type 0
+ReadsRules scale number [] answer = answer ≡ Ok []
+ReadsRules scale number (rule ∷ rules) (Ok []) = ⊥
+ReadsRules scale number (rule ∷ rules) (Ok (read ∷ others)) =
+    (read.0 ≡ rule.0) × Reads scale rule.0 rule.1 (Ok read.1) × ReadsRules scale (number + 1) rules (Ok others)
+ReadsRules scale number (rule ∷ rules) (Err fault) =
+    (Reads scale rule.0 rule.1 (Err fault.cause) × (fault.rule ≡ number))
+    ⊎ ((read : Entries) × Reads scale rule.0 rule.1 (Ok read) × ReadsRules scale (number + 1) rules (Err fault))
+
+-- the rules with their format
+abbrev pub ReadsAll : Entries → List (TableKind × Members) → Result Rules RuleFault → Type 0
+ReadsAll format tables (Ok rules) =
+    IsFormatOf format rules.format
+    × (read : List (TableKind × Entries)) × ReadsRules (scale_of format) 1 tables (Ok read) × AreRulesOf read rules
+ReadsAll format tables (Err fault) = ReadsRules (scale_of format) 1 tables (Err fault)
+
+-- what should be an array of tables is none; or there are more than 1,000 rules; or they are read
+abbrev pub ReadsTables : Entries → Option (List (TableKind × Members)) → Result Rules RuleFault → Type 0
+ReadsTables format None answer = answer ≡ Err (of_the_file WrongKind)
+ReadsTables format (Some tables) answer =
+    ((1000 < length tables) × (answer ≡ Err (of_the_file TooMany))) ⊎ ((length tables ≤ 1000) × ReadsAll format tables answer)
+
+-- the format, which speaks of no values and times, and then the rules
+abbrev pub ReadsFormat : Members → Members → Result Rules RuleFault → Type 0
+ReadsFormat members format answer =
+    ((cause : RuleCause) × Reads (record { decimals = 0; form = Sec }) Format format (Err cause) × (answer ≡ Err (of_the_file cause)))
+    ⊎ ((read : Entries) × Reads (record { decimals = 0; form = Sec }) Format format (Ok read) × ReadsTables read (rule_tables rule_kinds members) answer)
+
+abbrev pub ReadsWith : Members → Option Data → Result Rules RuleFault → Type 0
+ReadsWith members None answer = answer ≡ Err (of_the_file MissingKey)
+ReadsWith members (Some (table format)) answer = ReadsFormat members format answer
+ReadsWith members (Some _) answer = answer ≡ Err (of_the_file WrongKind)
+
+-- what the table of a file is read as
+abbrev pub ReadsDocument : Members → Result Rules RuleFault → Type 0
+ReadsDocument members answer =
+    ((¬ HasOnly (map kind_text (Format ∷ rule_kinds)) members) × (answer ≡ Err (of_the_file UnknownKey)))
+    ⊎ (HasOnly (map kind_text (Format ∷ rule_kinds)) members × ReadsWith members (get_member (codes "format") members) answer)

@@ -1,6 +1,6 @@
-pub mod Document
-pub mod Entries
+pub mod Count
 pub mod Limits
+pub mod Document
+pub mod Meaning
 pub mod Reading
-pub mod SpeedTable
 pub mod Toml

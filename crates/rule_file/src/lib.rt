@@ -1,19 +1,15 @@
-//! Rule files: the bytes of a TOML text as the rules that they spell, or the reason why they spell none.
-//!
-//! For now a rule file has one speed rule for one sensor, on whole numbers.
+//! Rule files: the bytes of a TOML text as the rules that they spell, or the first reason why they spell
+//! none.
 #![tactic(auto)]
 
-mod document;
-mod entries;
 mod fault;
 mod read;
 mod rules;
-mod speed;
-mod values;
 
-pub use fault::{RuleCause, RuleFault};
+pub use fault::RuleFault;
 pub use read::{LONGEST, read_rules};
-pub use rules::{Name, Rules, SpeedRule};
-
-#[cfg(test)]
-mod tests;
+pub use rule_keys::RuleCause;
+pub use rules::{
+    BetweenList, BetweenRule, DriftList, DriftRule, Format, Name, RangeList, RangeRule, Rules,
+    SpeedList, SpeedRule, SwingList, SwingRule, TrustList, TrustRule, WeightList, WeightRule,
+};

@@ -1,6 +1,7 @@
 //! What was read from a table.
-ghost use Rattle.std.specs.Prelude.{◌≡◌, option_map};
-ghost use Rattle.rule_keys.specs.Entries.{number_at, name_at};
+ghost use Rattle.std.specs.Prelude.{◌≡◌, map, option_map};
+ghost use Rattle.rule_keys.specs.Seen.{meaning, seen};
+ghost use Rattle.rule_keys.specs.Entries.{meaning_at, number_at, name_at};
 
 use crate::key::KeyName;
 use std::marker::Model;
@@ -35,13 +36,31 @@ impl<'a> Entries<'a> {
     pub fn number(&self, key: KeyName) -> i64
         ensures { result ≡ number_at key self.now }
     {
-        0
+        match entry_at(self.found.as_slice(), key) {
+            Entry::Number(number) => number,
+            _ => 0,
+        }
     }
 
     /// The name at a key, and none where none is.
     pub fn name(&self, key: KeyName) -> Option<&'a [u8]>
         ensures { option_map (λ text. text.now) result ≡ name_at key self.now }
     {
-        None
+        match entry_at(self.found.as_slice(), key) {
+            Entry::Name(name) => Some(name),
+            _ => None,
+        }
     }
+}
+
+/// What stands at a key, and no name where nothing does.
+fn entry_at<'a>(found: &[(KeyName, Entry<'a>)], key: KeyName) -> Entry<'a>
+    ensures { meaning result ≡ meaning_at key (map seen found.now) }
+{
+    for (name, entry) in found {
+        if *name == key {
+            return *entry;
+        }
+    }
+    Entry::NoName
 }
