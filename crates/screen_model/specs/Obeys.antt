@@ -1,9 +1,18 @@
 -- What it means that a series obeys bounds.
-use Rattle.std.specs.Prelude.{ℤ, ◌-ℤ◌, ◌≤ℤ◌, List}
+use Rattle.std.specs.Prelude.{◌≡◌, ℕ, ℤ, ◌-ℤ◌, ◌≤ℤ◌, List, map}
 use Rattle.std.specs.List.{AllByRecursion}
 use Rattle.screen_model.specs.declared.place.Place.{Place}
 use Rattle.screen_model.specs.declared.bound.Bound.{Bound}
 use Rattle.screen_model.specs.Series.{value_at}
+
+-- a bound, and what it costs to break it by a unit; 0 is no price, and the bound may not be broken
+pub record Priced : Type 0 where
+  pub bound : Bound
+  pub price : ℕ
+
+-- bounds that all have no price
+abbrev pub without_prices : List Bound → List Priced
+without_prices bounds = map (λ bound. record { bound = bound; price = 0 }) bounds
 
 -- how far the value at the second end lies above the value at the first
 abbrev pub rise : List Place → List ℤ → Bound → ℤ
@@ -12,6 +21,6 @@ rise places series bound = value_at places series bound.second -ℤ value_at pla
 abbrev pub Keeps : List Place → List ℤ → Bound → Type 0
 Keeps places series bound = rise places series bound ≤ℤ bound.limit
 
--- each bound is kept
-abbrev pub Obeys : List Place → List ℤ → List Bound → Type 0
-Obeys places series bounds = AllByRecursion (Keeps places series) bounds
+-- each bound without a price is kept
+abbrev pub Obeys : List Place → List ℤ → List Priced → Type 0
+Obeys places series bounds = AllByRecursion (λ priced. priced.price ≡ 0 → Keeps places series priced.bound) bounds

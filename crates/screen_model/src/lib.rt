@@ -1,4 +1,5 @@
-//! Places, bounds and series, and what it means that a series obeys bounds.
+//! Places, bounds and series: what it means that a series obeys bounds, what it costs, and when no
+//! other costs less.
 //!
 //! A series is a list of whole numbers of a unit, one for each reading. A bound limits how far the
 //! value at one end may lie above the value at another, after the speed constraint of Song, Zhang,
@@ -6,9 +7,13 @@
 #![tactic(auto)]
 
 mod bound;
+mod laws;
 mod place;
+#[cfg(test)]
+mod tests;
 
 pub use bound::{Bound, BoundName, FlowItem, Side};
+pub use laws::{best_costs_least, blocked_forbids, weak_duality};
 pub use place::{End, Place};
 use sequence::Sequence;
 

@@ -7,10 +7,11 @@ use Rattle.std.proofs.lemmas.Bool.{cases_lt}
 use Rattle.std.proofs.lemmas.Bool.Decides.{nat_tests}
 use Rattle.screen_model.specs.declared.place.Place.{Place}
 use Rattle.screen_model.specs.Series.{reading_at}
-use Rattle.screen_model.specs.Obeys.{Keeps, Obeys}
+use Rattle.screen_model.specs.declared.bound.Bound.{Bound}
+use Rattle.screen_model.specs.Obeys.{Keeps, Obeys, without_prices}
 use Rattle.series_csv.specs.declared.table.Row.{Row}
 use Rattle.series_csv.specs.Rows.{AreRows, IsSmall, Rises, places_from, places, values}
-use Rattle.rule_file.specs.declared.rules.SpeedRule.{SpeedRule}
+use Rattle.screen_tool.specs.declared.speed.WholeSpeed.{WholeSpeed}
 use Rattle.screen_tool.specs.Bounds.{bounds, size_bounds, speed_bounds, later_bounds, pair_bounds, is_within, place_in, greatest_step, least_step}
 use Rattle.screen_tool.specs.Changes.{ChangesWithin, ChangesAllWithin, MeetsSpeed}
 use Rattle.screen_tool.proofs.Floor.{at_most_floor}
@@ -79,7 +80,7 @@ down_kept x y min per seconds some =
     )
 
 -- a pair of rows keeps its two bounds exactly where, within the window, it changes as the rates allow
-pub pair_kept : (rule : SpeedRule) (at : List Place) (series : List ℤ) (n m : ℕ) (row later : Row) → 0 < rule.per → row.seconds < later.seconds → reading_at at series (place_in n) ≡ row.value → reading_at at series (place_in m) ≡ later.value → AllByRecursion (Keeps at series) (pair_bounds rule n row m later) ↔ (later.seconds - row.seconds ≤ rule.window → ChangesWithin rule row later)
+pub pair_kept : (rule : WholeSpeed) (at : List Place) (series : List ℤ) (n m : ℕ) (row later : Row) → 0 < rule.per → row.seconds < later.seconds → reading_at at series (place_in n) ≡ row.value → reading_at at series (place_in m) ≡ later.value → AllByRecursion (Keeps at series) (pair_bounds rule n row m later) ↔ (later.seconds - row.seconds ≤ rule.window → ChangesWithin rule row later)
 pair_kept rule at series n m row later some rise is_row is_later =
     let seconds = later.seconds - row.seconds in
     let up = up_kept row.value later.value rule.max rule.per seconds some in
@@ -97,7 +98,7 @@ pair_kept rule at series n m row later some rise is_row is_later =
     (cases_lt rule.window seconds)
 
 -- a row with each later one
-later_kept : (rule : SpeedRule) (at : List Place) (series : List ℤ) (n m : ℕ) (row : Row) (rows : List Row) → 0 < rule.per → Rises (row ∷ rows) → reading_at at series (place_in n) ≡ row.value → Shows at series m rows → AllByRecursion (Keeps at series) (later_bounds rule n row m rows) ↔ ChangesAllWithin rule row rows
+later_kept : (rule : WholeSpeed) (at : List Place) (series : List ℤ) (n m : ℕ) (row : Row) (rows : List Row) → 0 < rule.per → Rises (row ∷ rows) → reading_at at series (place_in n) ≡ row.value → Shows at series m rows → AllByRecursion (Keeps at series) (later_bounds rule n row m rows) ↔ ChangesAllWithin rule row rows
 later_kept rule at series n m row [] some rising is_row shows = (λ _. tt, λ _. tt)
 later_kept rule at series n m row (later ∷ rows) some rising is_row shows =
     let pair = pair_kept rule at series n m row later some rising.0 is_row shows.0 in
@@ -112,7 +113,7 @@ rises_behind row [] rising = tt
 rises_behind row (next ∷ rows) rising = rising.1
 
 -- each row with each later one
-speed_kept : (rule : SpeedRule) (at : List Place) (series : List ℤ) (n : ℕ) (rows : List Row) → 0 < rule.per → Rises rows → Shows at series n rows → AllByRecursion (Keeps at series) (speed_bounds rule n rows) ↔ MeetsSpeed rule rows
+speed_kept : (rule : WholeSpeed) (at : List Place) (series : List ℤ) (n : ℕ) (rows : List Row) → 0 < rule.per → Rises rows → Shows at series n rows → AllByRecursion (Keeps at series) (speed_bounds rule n rows) ↔ MeetsSpeed rule rows
 speed_kept rule at series n [] some rising shows = (λ _. tt, λ _. tt)
 speed_kept rule at series n (row ∷ rows) some rising shows =
     let later = later_kept rule at series n (n + 1) row rows some rising shows.0 shows.1 in
@@ -130,14 +131,23 @@ size_kept at series n (row ∷ rows) small shows =
     let low = small.0.low in
     (rw shows.0 (omega (arith, ints)), (rw shows.0 (omega (arith, ints)), size_kept at series (n + 1) rows small.1 shows.1))
 
+-- where no bound has a price, to obey is to keep each
+unpriced : (at : List Place) (series : List ℤ) (bounds : List Bound) → AllByRecursion (Keeps at series) bounds ↔ Obeys at series (without_prices bounds)
+unpriced at series [] = (λ _. tt, λ _. tt)
+unpriced at series (bound ∷ bounds) = (
+  λ kept. ((λ _. kept.0), (unpriced at series bounds).0 kept.1),
+  λ obeys. (obeys.0 refl, (unpriced at series bounds).1 obeys.1),
+)
+
 -- the readings of rows obey all bounds exactly where they meet the speed constraint
-pub obeys_exactly : (rule : SpeedRule) (rows : List Row) → AreRows rows → 1 ≤ rule.per → MeetsSpeed rule rows ↔ Obeys (places rows) (values rows) (bounds rule rows)
+pub obeys_exactly : (rule : WholeSpeed) (rows : List Row) → AreRows rows → 1 ≤ rule.per → MeetsSpeed rule rows ↔ Obeys (places rows) (values rows) (without_prices (bounds rule rows))
 obeys_exactly rule rows are some =
     let at = places rows in
     let series = values rows in
     let shows = shows_all 1 rows in
     let speed = speed_kept rule at series 1 rows (omega arith) are.rise shows in
-    let both = all_append (Keeps at series) (size_bounds 1 rows) (speed_bounds rule 1 rows) in (
-      λ meets. both.1 (size_kept at series 1 rows are.small shows, speed.1 meets),
-      λ obeys. speed.0 (both.0 obeys).1,
+    let both = all_append (Keeps at series) (size_bounds 1 rows) (speed_bounds rule 1 rows) in
+    let priced = unpriced at series (bounds rule rows) in (
+      λ meets. priced.0 (both.1 (size_kept at series 1 rows are.small shows, speed.1 meets)),
+      λ obeys. speed.0 (both.0 (priced.1 obeys)).1,
     )

@@ -1,7 +1,7 @@
 -- Rows that rise: what holds of one row and the later ones.
 use Rattle.std.proofs.Common.{◌-◌, ◌<◌, pos, List, [], ◌∷◌, arith}
 use Rattle.series_csv.specs.declared.table.Row.{Row}
-use Rattle.rule_file.specs.declared.rules.SpeedRule.{SpeedRule}
+use Rattle.screen_tool.specs.declared.speed.WholeSpeed.{WholeSpeed}
 use Rattle.series_csv.specs.Rows.{Rises}
 use Rattle.screen_tool.specs.Changes.{ChangesAllWithin}
 
@@ -11,7 +11,7 @@ rises_without row next [] rise = tt
 rises_without row next (later ∷ rows) rise = (omega arith, rise.1.1)
 
 -- behind a row outside the window all are outside
-pub all_outside : (rule : SpeedRule) (row next : Row) (rows : List Row) → Rises (row ∷ next ∷ rows) → rule.window < next.seconds - row.seconds → ChangesAllWithin rule row (next ∷ rows)
+pub all_outside : (rule : WholeSpeed) (row next : Row) (rows : List Row) → Rises (row ∷ next ∷ rows) → rule.window < next.seconds - row.seconds → ChangesAllWithin rule row (next ∷ rows)
 all_outside rule row next [] rise far = (λ near. absurd (omega arith), tt)
 all_outside rule row next (later ∷ rows) rise far =
     (λ near. absurd (omega arith), all_outside rule row later rows (rises_without row next (later ∷ rows) rise) (omega arith))

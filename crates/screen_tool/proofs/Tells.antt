@@ -4,11 +4,11 @@ use Rattle.screen_io.specs.Sink.{Gains, GainsPrefix}
 use Rattle.screen_io.specs.declared.source.Failed.{Failed}
 use Rattle.std.proofs.Common.{◌≡◌, ◌⊎◌, inl, inr, Result, Ok, Err, OnOk, OnErr, ℕ, List, Option, Bool, true, false, IsTrue, ◌↔◌, refl, sym, subst, ◌∙◌}
 use Rattle.std.proofs.lemmas.Bool.{false≢true}
-use Rattle.rule_file.specs.declared.rules.Rules.{Rules}
-use Rattle.rule_file.specs.Reading.{Spells as SpellsRules}
+use Rattle.screen_tool.specs.declared.speed.WholeSpeed.{WholeSpeed}
+use Rattle.screen_tool.specs.Narrow.{Spells as SpellsRules}
 use Rattle.series_csv.specs.declared.table.Row.{Row}
 use Rattle.series_csv.specs.Rows.{places, values}
-use Rattle.screen_model.specs.Obeys.{Obeys}
+use Rattle.screen_model.specs.Obeys.{Obeys, without_prices}
 use Rattle.screen_tool.specs.Bounds.{bounds}
 use Rattle.screen_tool.specs.declared.status.Ending.{Ending}
 use Rattle.screen_tool.specs.declared.status.Ending.TheVariants.{Done, Usage, RulesRefused, ReadingsRefused, ReadFault, WriteFault, Memory, NeedsRepair}
@@ -31,7 +31,7 @@ tells_from_rules rb tb rl tl WriteFault ends = absurd ends
 tells_from_rules rb tb rl tl NeedsRepair ends = absurd ends
 tells_from_rules rb tb rl tl (ReadingsRefused fault) ends = absurd ends
 
-pub tells_from_readings : (rule_bytes reading_bytes : List ℕ) (rules_left readings_left : Option (List ℕ)) (found : Rules) (ending : Ending) → SpellsRules rule_bytes found → EndsReadings found.speed.sensor reading_bytes ending → TellsEarly rule_bytes reading_bytes rules_left readings_left ending
+pub tells_from_readings : (rule_bytes reading_bytes : List ℕ) (rules_left readings_left : Option (List ℕ)) (found : WholeSpeed) (ending : Ending) → SpellsRules rule_bytes found → EndsReadings found.sensor reading_bytes ending → TellsEarly rule_bytes reading_bytes rules_left readings_left ending
 tells_from_readings rb tb rl tl found (ReadingsRefused fault) spells ends = ((λ cert out. (found, spells, ends.0, ends.1, (refl, refl))), tt)
 tells_from_readings rb tb rl tl found ReadFault spells ends = ((λ cert out. (refl, refl)), tt)
 tells_from_readings rb tb rl tl found Memory spells ends = ((λ cert out. (refl, refl)), tt)
@@ -42,13 +42,13 @@ tells_from_readings rb tb rl tl found NeedsRepair spells ends = absurd ends
 tells_from_readings rb tb rl tl found (RulesRefused fault) spells ends = absurd ends
 
 -- What the test of the bounds says of the rows that were read; rows is how the test saw them.
-abbrev pub Tests : Rules → List Row → Bool → Type 0
-Tests found rows test = IsTrue test ↔ Obeys (places rows) (values rows) (bounds found.speed rows)
+abbrev pub Tests : WholeSpeed → List Row → Bool → Type 0
+Tests found rows test = IsTrue test ↔ Obeys (places rows) (values rows) (without_prices (bounds found rows))
 
-pub obeys_from_test : (found : Rules) (rows seen : List Row) (test : Bool) → seen ≡ rows → Tests found seen test → test ≡ true → ReadingsObey found rows
+pub obeys_from_test : (found : WholeSpeed) (rows seen : List Row) (test : Bool) → seen ≡ rows → Tests found seen test → test ≡ true → ReadingsObey found rows
 obeys_from_test found rows seen test same tests passes = subst (λ (r : List Row). ReadingsObey found r) same (tests.0 passes)
 
-pub disobeys_from_test : (found : Rules) (rows seen : List Row) (test : Bool) → seen ≡ rows → Tests found seen test → test ≡ false → ¬ ReadingsObey found rows
+pub disobeys_from_test : (found : WholeSpeed) (rows seen : List Row) (test : Bool) → seen ≡ rows → Tests found seen test → test ≡ false → ¬ ReadingsObey found rows
 disobeys_from_test found rows seen test same tests fails =
     λ obeys. absurd (false≢true (sym fails ∙ tests.1 (subst (λ (r : List Row). ReadingsObey found r) (sym same) obeys)))
 

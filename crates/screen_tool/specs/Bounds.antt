@@ -8,7 +8,7 @@ use Rattle.screen_model.specs.declared.bound.Side.TheVariants.{Up, Down}
 use Rattle.screen_model.specs.declared.bound.Bound.{Bound}
 use Rattle.screen_model.specs.declared.bound.BoundName.{BoundName}
 use Rattle.series_csv.specs.declared.table.Row.{Row}
-use Rattle.rule_file.specs.declared.rules.SpeedRule.{SpeedRule}
+use Rattle.screen_tool.specs.declared.speed.WholeSpeed.{WholeSpeed}
 
 -- the greatest whole change in so many seconds at a rate for each `per` seconds
 abbrev pub greatest_step : ℤ → ℕ → ℕ → ℤ
@@ -34,12 +34,12 @@ size_bounds number (row ∷ rows) =
     ∷ size_bounds (number + 1) rows
 
 -- a later row stands within the window
-abbrev pub is_within : SpeedRule → Row → Row → Bool
+abbrev pub is_within : WholeSpeed → Row → Row → Bool
 is_within rule row later = nat_lt row.seconds later.seconds && nat_le (later.seconds - row.seconds) rule.window
 
 -- rule 1 for two rows of these numbers: the later reading rises by at most the greatest step, and falls by
 -- at most as much as the least step allows
-abbrev pub pair_bounds : SpeedRule → ℕ → Row → ℕ → Row → List Bound
+abbrev pub pair_bounds : WholeSpeed → ℕ → Row → ℕ → Row → List Bound
 pair_bounds rule number row later_number later =
     let seconds = later.seconds - row.seconds in
     if is_within rule row later
@@ -49,15 +49,15 @@ pair_bounds rule number row later_number later =
     else []
 
 -- a row with each later one; the first of these has the number given
-abbrev pub later_bounds : SpeedRule → ℕ → Row → ℕ → List Row → List Bound
+abbrev pub later_bounds : WholeSpeed → ℕ → Row → ℕ → List Row → List Bound
 later_bounds rule number row next [] = []
 later_bounds rule number row next (later ∷ rows) = pair_bounds rule number row next later ++ later_bounds rule number row (next + 1) rows
 
 -- each row with each later one
-abbrev pub speed_bounds : SpeedRule → ℕ → List Row → List Bound
+abbrev pub speed_bounds : WholeSpeed → ℕ → List Row → List Bound
 speed_bounds rule number [] = []
 speed_bounds rule number (row ∷ rows) = later_bounds rule number row (number + 1) rows ++ speed_bounds rule (number + 1) rows
 
 -- all bounds over the rows, of which the first has the number 1
-abbrev pub bounds : SpeedRule → List Row → List Bound
+abbrev pub bounds : WholeSpeed → List Row → List Bound
 bounds rule rows = size_bounds 1 rows ++ speed_bounds rule 1 rows

@@ -2,18 +2,18 @@
 use Rattle.std.specs.Prelude.{◌-◌, ◌≤◌, pos, ◌*ℤ◌, ◌-ℤ◌, ◌≤ℤ◌, List, [], ◌∷◌}
 use Rattle.std.specs.List.{AllByRecursion}
 use Rattle.series_csv.specs.declared.table.Row.{Row}
-use Rattle.rule_file.specs.declared.rules.SpeedRule.{SpeedRule}
+use Rattle.screen_tool.specs.declared.speed.WholeSpeed.{WholeSpeed}
 
 -- the later reading differs by what the rates allow in the seconds between the two
-pub record ChangesWithin (rule : SpeedRule) (row later : Row) : Type 0 where
+pub record ChangesWithin (rule : WholeSpeed) (row later : Row) : Type 0 where
   pub least : (rule.min *ℤ pos (later.seconds - row.seconds)) ≤ℤ (pos rule.per *ℤ (later.value -ℤ row.value))
   pub greatest : (pos rule.per *ℤ (later.value -ℤ row.value)) ≤ℤ (rule.max *ℤ pos (later.seconds - row.seconds))
 
 -- so does each later reading that is no further away than the window
-abbrev pub ChangesAllWithin : SpeedRule → Row → List Row → Type 0
+abbrev pub ChangesAllWithin : WholeSpeed → Row → List Row → Type 0
 ChangesAllWithin rule row rows = AllByRecursion (λ later. later.seconds - row.seconds ≤ rule.window → ChangesWithin rule row later) rows
 
 -- of every two readings
-abbrev pub MeetsSpeed : SpeedRule → List Row → Type 0
+abbrev pub MeetsSpeed : WholeSpeed → List Row → Type 0
 MeetsSpeed rule [] = Unit {0}
 MeetsSpeed rule (row ∷ rows) = ChangesAllWithin rule row rows × MeetsSpeed rule rows

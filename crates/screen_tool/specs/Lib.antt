@@ -3,6 +3,9 @@ pub mod Changes
 pub mod Command
 pub mod Ending
 pub mod Global
+pub mod Limits
+pub mod Narrow
 pub mod Note
+pub mod Numbers
 pub mod Run
 pub mod Steps

@@ -1,7 +1,7 @@
 -- What the program says of each ending.
 use Rattle.std.specs.Prelude.{ℕ, List, [], ◌++◌, codes, decimal}
-use Rattle.rule_file.specs.declared.fault.RuleCause.{RuleCause}
-use Rattle.rule_file.specs.declared.fault.RuleCause.TheVariants as rules
+use Rattle.rule_keys.specs.declared.cause.RuleCause.{RuleCause}
+use Rattle.rule_keys.specs.declared.cause.RuleCause.TheVariants as rules
 use Rattle.series_csv.specs.declared.fault.TableCause.{TableCause}
 use Rattle.series_csv.specs.declared.fault.TableCause.TheVariants as readings
 use Rattle.screen_tool.specs.declared.status.Ending.{Ending}
@@ -10,6 +10,15 @@ use Rattle.screen_tool.specs.declared.status.Ending.TheVariants.{Done, Usage, Ru
 abbrev pub rule_cause_name : RuleCause → List ℕ
 rule_cause_name rules.NotBuilt = codes "NotBuilt"
 rule_cause_name rules.Syntax = codes "Syntax"
+rule_cause_name rules.UnknownKey = codes "UnknownKey"
+rule_cause_name rules.MissingKey = codes "MissingKey"
+rule_cause_name rules.WrongKind = codes "WrongKind"
+rule_cause_name rules.BadNumber = codes "BadNumber"
+rule_cause_name rules.Order = codes "Order"
+rule_cause_name rules.ReachTooLarge = codes "ReachTooLarge"
+rule_cause_name rules.OutOfLimit = codes "OutOfLimit"
+rule_cause_name rules.TooMany = codes "TooMany"
+rule_cause_name rules.SameSensor = codes "SameSensor"
 rule_cause_name rules.FileTooLong = codes "FileTooLong"
 rule_cause_name rules.Memory = codes "Memory"
 

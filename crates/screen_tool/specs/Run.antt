@@ -2,10 +2,10 @@
 use Rattle.std.specs.Prelude.{◌≡◌, ◌≢◌, ◌⊎◌, ℕ, List, [], Option, Some}
 use Rattle.screen_io.specs.Faults.{Rose}
 use Rattle.screen_io.specs.Sink.{Gains, GainsPrefix}
-use Rattle.rule_file.specs.declared.rules.Rules.{Rules}
+use Rattle.screen_tool.specs.declared.speed.WholeSpeed.{WholeSpeed}
 use Rattle.rule_file.specs.declared.fault.RuleFault.{RuleFault}
-use Rattle.rule_file.specs.declared.fault.RuleCause.TheVariants as cause
-use Rattle.rule_file.specs.Reading.{Spells as SpellsRules, Refuses as RefusesRules}
+use Rattle.rule_keys.specs.declared.cause.RuleCause.TheVariants as cause
+use Rattle.screen_tool.specs.Narrow.{Spells as SpellsRules, Refuses as RefusesRules}
 use Rattle.screen_tool.specs.declared.ends.Inputs.{Inputs}
 use Rattle.screen_tool.specs.declared.ends.Outputs.{Outputs}
 use Rattle.screen_tool.specs.declared.status.Ending.{Ending}
@@ -45,7 +45,7 @@ module _ {S : Type 0} (left : S → Option (List ℕ)) (faults : S → ℕ) wher
   FailsToRead rules rules_now readings readings_now =
       (Rose (faults rules) (faults rules_now) × (readings_now ≡ readings))
       ⊎ ((faults rules_now ≡ faults rules) × Rose (faults readings) (faults readings_now)
-      × ((bytes : List ℕ) → left rules ≡ Some bytes → (found : Rules) × SpellsRules bytes found))
+      × ((bytes : List ℕ) → left rules ≡ Some bytes → (found : WholeSpeed) × SpellsRules bytes found))
 
   -- The rules are refused for what their bytes are, and the readings were not begun.
   abbrev pub StopsAtRules : S → S → S → Type 0

@@ -1,11 +1,11 @@
 -- How a step of a command may end it.
 use Rattle.std.specs.Prelude.{◌≡◌, ◌≢◌, ℕ, List}
-use Rattle.rule_file.specs.declared.fault.RuleCause.TheVariants as rules
-use Rattle.rule_file.specs.Reading.{Refuses as RefusesRules}
+use Rattle.rule_keys.specs.declared.cause.RuleCause.TheVariants as rules
+use Rattle.screen_tool.specs.Narrow.{Refuses as RefusesRules}
 use Rattle.series_csv.specs.declared.table.Row.{Row}
 use Rattle.series_csv.specs.declared.fault.TableCause.TheVariants as readings
 use Rattle.series_csv.specs.Reading.{Refuses as RefusesReadings}
-use Rattle.rule_file.specs.declared.rules.Rules.{Rules}
+use Rattle.screen_tool.specs.declared.speed.WholeSpeed.{WholeSpeed}
 use Rattle.screen_tool.specs.declared.status.Ending.{Ending}
 use Rattle.screen_tool.specs.declared.status.Ending.TheVariants.{Done, Usage, RulesRefused, ReadingsRefused, ReadFault, WriteFault, Memory, NeedsRepair}
 use Rattle.screen_tool.specs.Global.{AreAccepted, ReadingsObey, unchanged_text}
@@ -27,6 +27,12 @@ IsAtRules (RulesRefused fault) = Unit {0}
 IsAtRules ReadFault = Unit {0}
 IsAtRules Memory = Unit {0}
 IsAtRules _ = ⊥
+
+-- an ending as the rules are looked at, once their bytes are there
+abbrev pub IsRefusal : Ending → Type 0
+IsRefusal (RulesRefused fault) = Unit {0}
+IsRefusal Memory = Unit {0}
+IsRefusal _ = ⊥
 
 abbrev pub IsAtReadings : Ending → Type 0
 IsAtReadings (ReadingsRefused fault) = Unit {0}
@@ -51,4 +57,4 @@ EndsReadings sensor bytes _ = ⊥
 -- The readings obey, and this is their text.
 abbrev pub IsUnchangedText : List ℕ → List ℕ → List ℕ → Type 0
 IsUnchangedText rule_bytes reading_bytes text =
-    (found : Rules) × (rows : List Row) × AreAccepted rule_bytes reading_bytes found rows × ReadingsObey found rows × (text ≡ unchanged_text found rows)
+    (found : WholeSpeed) × (rows : List Row) × AreAccepted rule_bytes reading_bytes found rows × ReadingsObey found rows × (text ≡ unchanged_text found rows)

@@ -1,24 +1,24 @@
 ghost use Rattle.std.specs.Prelude.{◌≡◌, ◌↔◌, ◌<◌, ◌≤◌, ◌∷◌, ◌-ℤ◌, ◌*ℤ◌, ◌≤ℤ◌, IsTrue, unsigned_abs};
 ghost use Rattle.std.specs.List.{AllByRecursion};
-ghost use Rattle.screen_model.specs.Obeys.{Obeys};
+ghost use Rattle.screen_model.specs.Obeys.{Obeys, without_prices};
 ghost use Rattle.series_csv.specs.Rows.{AreRows, IsSmall, Rises, places, values};
 ghost use Rattle.screen_tool.specs.Bounds.{bounds};
 ghost use Rattle.screen_tool.specs.Changes.{ChangesWithin, ChangesAllWithin, MeetsSpeed};
 
-use rule_file::SpeedRule;
+use crate::speed::WholeSpeed;
 use series_csv::Row;
 
 /// Whether the readings obey every bound that the rule makes over them.
-pub(crate) fn obeys(rule: &SpeedRule, rows: &[Row]) -> bool
+pub(crate) fn obeys(rule: &WholeSpeed, rows: &[Row]) -> bool
     requires { AreRows rows.now }
     ensures constraint { IsTrue result ↔ MeetsSpeed rule.now rows.now }
-    ensures bounds { IsTrue result ↔ Obeys (places rows.now) (values rows.now) (bounds rule.now rows.now) }
+    ensures bounds { IsTrue result ↔ Obeys (places rows.now) (values rows.now) (without_prices (bounds rule.now rows.now)) }
 {
     meets_speed(rule, rows)
 }
 
 // Whether every two readings within the window differ by what the rates allow.
-fn meets_speed(rule: &SpeedRule, rows: &[Row]) -> bool
+fn meets_speed(rule: &WholeSpeed, rows: &[Row]) -> bool
     requires { AreRows rows.now }
     ensures { IsTrue result ↔ MeetsSpeed rule.now rows.now }
 {
@@ -31,7 +31,7 @@ fn meets_speed(rule: &SpeedRule, rows: &[Row]) -> bool
 }
 
 // Each later reading that is no further away than the window differs by what the rates allow.
-fn changes_all_within(rule: &SpeedRule, row: Row, rows: &[Row]) -> bool
+fn changes_all_within(rule: &WholeSpeed, row: Row, rows: &[Row]) -> bool
     requires small { AllByRecursion IsSmall (row ∷ rows.now) }
     requires rise { Rises (row ∷ rows.now) }
     ensures { IsTrue result ↔ ChangesAllWithin rule.now row rows.now }
@@ -47,7 +47,7 @@ fn changes_all_within(rule: &SpeedRule, row: Row, rows: &[Row]) -> bool
     true
 }
 
-fn changes_within(rule: &SpeedRule, row: Row, later: Row) -> bool
+fn changes_within(rule: &WholeSpeed, row: Row, later: Row) -> bool
     requires small { IsSmall row }
     requires later_small { IsSmall later }
     requires rise { row.seconds < later.seconds }

@@ -9,8 +9,8 @@ ghost use Rattle.screen_tool.specs.Steps.{IsEarly, IsUnchangedText};
 use crate::bounds::obeys;
 use crate::ends::{Inputs, Outputs};
 use crate::files::{rules_from, table_from};
+use crate::speed::WholeSpeed;
 use crate::status::{Ending, Status};
-use rule_file::Rules;
 use screen_io::{Failed, Sink, Source, write_all_of};
 use series_csv::{Table, table_text};
 use std::alloc::{AllocError, Global};
@@ -62,7 +62,7 @@ fn unchanged<S: Source>(alloc: Global, rules: &mut S, readings: &mut S) -> Resul
 {
     let rules = rules_from(alloc, rules)?;
     let table = table_from(alloc, &rules, readings)?;
-    if !obeys(&rules.speed, table.as_slice()) {
+    if !obeys(&rules, table.as_slice()) {
         return Err(Ending::NeedsRepair);
     }
     let text = unchanged_text(alloc, &rules, &table)?;
@@ -70,11 +70,11 @@ fn unchanged<S: Source>(alloc: Global, rules: &mut S, readings: &mut S) -> Resul
 }
 
 // The text of the table with the values that were read.
-fn unchanged_text(alloc: Global, rules: &Rules, table: &Table) -> Result<Vec<u8>, AllocError>
-    ensures { IfOk result (λ text. text.items ≡ text_of_table rules.now.speed.sensor table.now (values table.now)) }
+fn unchanged_text(alloc: Global, rules: &WholeSpeed, table: &Table) -> Result<Vec<u8>, AllocError>
+    ensures { IfOk result (λ text. text.items ≡ text_of_table rules.now.sensor table.now (values table.now)) }
 {
     let series = table.series(alloc)?;
-    table_text(alloc, rules, table, &series)
+    table_text(alloc, rules.sensor.bytes(), table, &series)
 }
 
 // Writes the certificate, and then the text.

@@ -9,8 +9,10 @@ mod command;
 mod ends;
 mod files;
 mod global;
+mod narrow;
 mod note;
 mod program;
+mod speed;
 mod status;
 #[cfg(test)]
 mod tests;

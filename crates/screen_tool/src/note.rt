@@ -77,6 +77,15 @@ fn rule_cause_name(cause: RuleCause) -> &'static str
     match cause {
         RuleCause::NotBuilt => "NotBuilt",
         RuleCause::Syntax => "Syntax",
+        RuleCause::UnknownKey => "UnknownKey",
+        RuleCause::MissingKey => "MissingKey",
+        RuleCause::WrongKind => "WrongKind",
+        RuleCause::BadNumber => "BadNumber",
+        RuleCause::Order => "Order",
+        RuleCause::ReachTooLarge => "ReachTooLarge",
+        RuleCause::OutOfLimit => "OutOfLimit",
+        RuleCause::TooMany => "TooMany",
+        RuleCause::SameSensor => "SameSensor",
         RuleCause::FileTooLong => "FileTooLong",
         RuleCause::Memory => "Memory",
     }

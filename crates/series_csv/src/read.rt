@@ -7,7 +7,6 @@ ghost use Rattle.series_csv.specs.Text.{header_text};
 use crate::fault::{TableCause, TableFault};
 use crate::field::{after_text, row_at};
 use crate::table::{Row, Table};
-use rule_file::Rules;
 use sequence::Sequence;
 use std::alloc::Global;
 
@@ -17,12 +16,12 @@ pub const LONGEST: usize = 268_435_456;
 /// The most rows of a table.
 const MOST_ROWS: usize = 1_000;
 
-/// The table of a readings file whose sensor is that of the rules, or why there is none.
-pub fn read_table(alloc: Global, rules: &Rules, bytes: &[u8]) -> Result<Table, TableFault>
-    ensures accepted { IfOk result (Spells rules.now.speed.sensor bytes.now) }
-    ensures refused { IfErr result (Refuses rules.now.speed.sensor bytes.now) }
+/// The table of a readings file whose sensor has this name, or why there is none.
+pub fn read_table(alloc: Global, sensor: &[u8], bytes: &[u8]) -> Result<Table, TableFault>
+    ensures accepted { IfOk result (Spells sensor.now bytes.now) }
+    ensures refused { IfErr result (Refuses sensor.now bytes.now) }
 {
-    match table_of(alloc, rules.speed.sensor.bytes(), bytes) {
+    match table_of(alloc, sensor, bytes) {
         Ok(table) => Ok(table),
         Err(cause) => Err(TableFault {
             cause,
@@ -32,7 +31,7 @@ pub fn read_table(alloc: Global, rules: &Rules, bytes: &[u8]) -> Result<Table, T
     }
 }
 
-/// The table of a file whose sensor has this name, or why there is none.
+/// The table, or the cause that keeps the file from having one.
 pub(crate) fn table_of(alloc: Global, sensor: &[u8], bytes: &[u8]) -> Result<Table, TableCause>
     ensures accepted { IfOk result (Spells sensor.now bytes.now) }
     ensures refused { IfErr result (HasCause sensor.now bytes.now) }

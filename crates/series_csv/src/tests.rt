@@ -1,26 +1,10 @@
 use crate::read::table_of;
 use crate::write::text_of;
 use crate::{Row, TableCause, TableFault, read_table, table_text};
-use rule_file::{Rules, SpeedRule};
-use sequence::Sequence;
 use std::alloc::{AllocError, Global};
 use std::test::Fail;
 
 const SENSOR: &[u8] = b"x";
-
-fn rules_for_x(alloc: Global) -> Result<Rules, AllocError> {
-    let mut sensor = Sequence::new(alloc);
-    sensor.push(b'x')?;
-    Ok(Rules {
-        speed: SpeedRule {
-            sensor,
-            min: -1,
-            max: 1,
-            per: 1,
-            window: 1,
-        },
-    })
-}
 
 /// The header and this many rows, a second apart.
 fn text_with_rows(alloc: Global, count: u32) -> Result<Vec<u8>, AllocError> {
@@ -34,9 +18,8 @@ fn text_with_rows(alloc: Global, count: u32) -> Result<Vec<u8>, AllocError> {
 
 #[test]
 fn a_file_gives_its_rows_and_they_give_the_file(rt: HostRuntime) -> Result<(), Fail> {
-    let rules = rules_for_x(rt.alloc())?;
     let bytes = b"time,x\n0,10\n1,11\n2,12\n";
-    let table = read_table(rt.alloc(), &rules, bytes)?;
+    let table = read_table(rt.alloc(), SENSOR, bytes)?;
     let rows = [
         Row {
             seconds: 0,
@@ -54,7 +37,7 @@ fn a_file_gives_its_rows_and_they_give_the_file(rt: HostRuntime) -> Result<(), F
     assert_eq!(rt; table.as_slice(), rows.as_slice());
     let series = table.series(rt.alloc())?;
     assert_eq!(rt; series.as_slice(), [10, 11, 12].as_slice());
-    let text = table_text(rt.alloc(), &rules, &table, &series)?;
+    let text = table_text(rt.alloc(), SENSOR, &table, &series)?;
     assert_eq!(rt; text.as_slice(), bytes.as_slice());
     Ok(())
 }
@@ -130,8 +113,7 @@ fn a_thousand_rows_are_read_and_one_more_is_not(rt: HostRuntime) -> Result<(), F
 
 #[test]
 fn a_refusal_concerns_no_row(rt: HostRuntime) -> Result<(), Fail> {
-    let rules = rules_for_x(rt.alloc())?;
-    let fault = read_table(rt.alloc(), &rules, b"time,y\n").err();
+    let fault = read_table(rt.alloc(), SENSOR, b"time,y\n").err();
     let expected = TableFault {
         cause: TableCause::NotBuilt,
         row: 0,

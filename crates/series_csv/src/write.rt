@@ -4,29 +4,24 @@ ghost use Rattle.series_csv.specs.Text.{header_text, row_text, table_text as tex
 
 use crate::table::{Row, Table};
 use itoa::Buffer;
-use rule_file::Rules;
 use screen_model::Series;
 use std::alloc::{AllocError, Global};
 
-/// The text of a table in which each reading has the value of the series, in units.
+/// The text of a table whose sensor has this name, and in which each reading has the value of the series, in
+/// units.
 pub fn table_text(
     alloc: Global,
-    rules: &Rules,
+    sensor: &[u8],
     table: &Table,
     series: &Series,
 ) -> Result<Vec<u8>, AllocError>
     requires { length series.now ≡ length table.now }
-    ensures { IfOk result (λ text. text.items ≡ text_of_table rules.now.speed.sensor table.now series.now) }
+    ensures { IfOk result (λ text. text.items ≡ text_of_table sensor.now table.now series.now) }
 {
-    text_of(
-        alloc,
-        rules.speed.sensor.bytes(),
-        table.as_slice(),
-        series.as_slice(),
-    )
+    text_of(alloc, sensor, table.as_slice(), series.as_slice())
 }
 
-/// The text of a table whose sensor has this name.
+/// The text of these rows with these values.
 pub(crate) fn text_of(
     alloc: Global,
     sensor: &[u8],

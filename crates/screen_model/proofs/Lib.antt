@@ -1,0 +1,5 @@
+pub mod Cycles
+pub mod Duality
+pub mod Gains
+pub mod Products
+pub mod Pulls

@@ -1,0 +1,40 @@
+-- When a flow shows that a series costs least, and when a cycle of bounds shows that no series obeys.
+use Rattle.std.specs.Prelude.{◌≡◌, ◌≤◌, ℤ, pos, negsuc, ◌≤ℤ◌, List, length, map, Contains}
+use Rattle.std.specs.List.{AllByRecursion}
+use Rattle.screen_model.specs.declared.place.Place.{Place}
+use Rattle.screen_model.specs.Lists.{Distinct, rotated, total}
+use Rattle.screen_model.specs.Obeys.{Priced, Obeys}
+use Rattle.screen_model.specs.Cost.{Problem, IsProblem, IsSeries, cost}
+use Rattle.screen_model.specs.Flow.{Stream, IsAdmissible, dual_value}
+
+-- The series has a value for each reading and obeys, and an admissible flow has a dual value as great as what
+-- the series costs.
+pub record IsBest (problem : Problem) (series : List ℤ) (flow : List Stream) : Type 0 where
+  pub whole : IsSeries problem series
+  pub obeys : Obeys problem.places series problem.bounds
+  pub admissible : IsAdmissible problem flow
+  pub equal : dual_value problem flow ≡ pos (cost problem series)
+
+-- A cycle of bounds without prices: each one's second end is the next one's first, the last one's the first
+-- one's; no end is the first of two; and the limits have a negative sum.
+pub record IsBlocked (bounds cycle : List Priced) : Type 0 where
+  pub some : 1 ≤ length cycle
+  pub members : AllByRecursion (Contains bounds) cycle
+  pub unpriced : AllByRecursion (λ priced. priced.price ≡ 0) cycle
+  pub closed : map (λ priced. priced.bound.second) cycle ≡ rotated (map (λ priced. priced.bound.first) cycle)
+  pub simple : Distinct (map (λ priced. priced.bound.first) cycle)
+  pub negative : total (map (λ priced. priced.bound.limit) cycle) ≤ℤ negsuc 0
+
+-- Weak duality: a series that obeys costs at least the dual value of every admissible flow.
+abbrev pub WeakDuality : Type 0
+WeakDuality = (problem : Problem) (series : List ℤ) (flow : List Stream) → IsProblem problem → IsSeries problem series
+    → Obeys problem.places series problem.bounds → IsAdmissible problem flow → dual_value problem flow ≤ℤ pos (cost problem series)
+
+-- So no series that obeys costs less than a best one.
+abbrev pub BestCostsLeast : Type 0
+BestCostsLeast = (problem : Problem) (series other : List ℤ) (flow : List Stream) → IsProblem problem → IsSeries problem other
+    → IsBest problem series flow → Obeys problem.places other problem.bounds → cost problem series ≤ cost problem other
+
+-- A blocked cycle forbids every series.
+abbrev pub BlockedForbids : Type 0
+BlockedForbids = (places : List Place) (bounds cycle : List Priced) (series : List ℤ) → IsBlocked bounds cycle → Obeys places series bounds → ⊥

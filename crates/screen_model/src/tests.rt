@@ -1,0 +1,46 @@
+use crate::{
+    Bound, BoundList, BoundName, End, FlowItem, FlowList, NameList, Place, Places, Series, Side,
+    best_costs_least, blocked_forbids, weak_duality,
+};
+use sequence::Sequence;
+use std::test::Fail;
+
+#[test]
+fn lists_and_laws(rt: HostRuntime) -> Result<(), Fail> {
+    let mut places: Places = Sequence::new(rt.alloc());
+    for row in 1..5u32 {
+        places.push(Place { row, col: 2 })?;
+    }
+    let mut series: Series = Sequence::new(rt.alloc());
+    for value in [10, 11, 12, 13i64] {
+        series.push(value)?;
+    }
+    let name = BoundName {
+        rule: 1,
+        from_row: 2,
+        to_row: 3,
+        col: 2,
+        side: Side::Up,
+    };
+    let rise = Bound {
+        name,
+        first: End::At(Place { row: 2, col: 2 }),
+        second: End::At(Place { row: 3, col: 2 }),
+        limit: 1,
+    };
+    let mut bounds: BoundList = Sequence::new(rt.alloc());
+    bounds.push(rise)?;
+    let mut flow: FlowList = Sequence::new(rt.alloc());
+    flow.push(FlowItem { name, amount: 1 })?;
+    let mut names: NameList = Sequence::new(rt.alloc());
+    names.push(name)?;
+    assert_eq!(rt; places.get(2), Some(&Place { row: 3, col: 2 }));
+    assert_eq!(rt; series.as_slice(), [10, 11, 12, 13].as_slice());
+    assert_eq!(rt; bounds.as_slice(), [rise].as_slice());
+    assert_eq!(rt; flow.get(0), Some(&FlowItem { name, amount: 1 }));
+    assert_eq!(rt; names.as_slice(), [name].as_slice());
+    weak_duality();
+    best_costs_least();
+    blocked_forbids();
+    Ok(())
+}
