@@ -38,11 +38,15 @@ narrow_same rules speed other narrow sensor min max per window =
     record {
       plain = narrow.plain;
       alone = narrow.alone;
-      lone = (narrow.lone.0, narrow.lone.1, record {
-        sensor = whole.sensor ∙ sensor;
-        min = whole.min ∙ ap (λ (n : ℤ). n *ℤ pos (10 ^ 6)) min;
-        max = whole.max ∙ ap (λ (n : ℤ). n *ℤ pos (10 ^ 6)) max;
-        per = whole.per ∙ per;
-        window = whole.window ∙ ap (λ (n : ℕ). pos (n * 10 ^ 9)) window;
-      });
+      lone = (
+        narrow.lone.0,
+        narrow.lone.1,
+        record {
+          sensor = whole.sensor ∙ sensor;
+          min = whole.min ∙ ap (λ (n : ℤ). n *ℤ pos (10 ^ 6)) min;
+          max = whole.max ∙ ap (λ (n : ℤ). n *ℤ pos (10 ^ 6)) max;
+          per = whole.per ∙ per;
+          window = whole.window ∙ ap (λ (n : ℕ). pos (n * 10 ^ 9)) window;
+        },
+      );
     }

@@ -8,6 +8,10 @@ use std::test::Fail;
 const RULES: &[u8] =
     b"[format]\ndecimals = 0\n[[speed]]\nsensor = \"x\"\nmin = -1\nmax = 1\nper = 1\nwindow = 10\n";
 
+// The same as a text.
+const BASE: &str =
+    "[format]\ndecimals = 0\n[[speed]]\nsensor = \"x\"\nmin = -1\nmax = 1\nper = 1\nwindow = 10\n";
+
 const READINGS: &[u8] = b"time,x\n0,10\n1,11\n2,12\n";
 
 const CERT: &[u8] = b"screen-cert 1\nclaim repair\ntotal 0\nend\n";
@@ -150,14 +154,122 @@ fn a_step_is_rounded_down(rt: HostRuntime) -> Result<(), Fail> {
 }
 
 #[test]
-fn refusals_are_named(rt: HostRuntime) -> Result<(), Fail> {
-    let alloc = rt.alloc();
+fn refused_readings_are_named(rt: HostRuntime) -> Result<(), Fail> {
     let note = b"screen: readings refused: NotBuilt, row 0, column 0\n";
-    global(alloc, RULES, b"")?.assert_is(&rt, Status::ReadingsRefused, b"", b"", note);
-    let note = b"screen: rules refused: NotBuilt, rule 0\n";
-    global(alloc, b"", READINGS)?.assert_is(&rt, Status::RulesRefused, b"", b"", note);
-    let note = b"screen: rules refused: Syntax, rule 0\n";
-    global(alloc, b"[[speed]", READINGS)?.assert_is(&rt, Status::RulesRefused, b"", b"", note);
+    global(rt.alloc(), RULES, b"")?.assert_is(&rt, Status::ReadingsRefused, b"", b"", note);
+    Ok(())
+}
+
+// The base rules with another text in the place of one of their parts.
+fn changed(alloc: Global, part: &str, other: &str) -> Result<String, AllocError> {
+    match BASE.split_once(part) {
+        Some((before, after)) => format!(in alloc; "{before}{other}{after}"),
+        None => String::from_str(alloc, BASE),
+    }
+}
+
+fn assert_refused(rt: &impl Abort, alloc: Global, rules: &str, fault: &str) -> Result<(), Fail> {
+    let note = format!(in alloc; "screen: rules refused: {fault}\n")?;
+    global(alloc, rules.as_bytes(), READINGS)?.assert_is(
+        rt,
+        Status::RulesRefused,
+        b"",
+        b"",
+        note.as_bytes(),
+    );
+    Ok(())
+}
+
+#[test]
+fn refused_rules_are_named(rt: HostRuntime) -> Result<(), Fail> {
+    let alloc = rt.alloc();
+    let cases = [
+        ("[[speed]]", "[[speed]", "Syntax, rule 0"),
+        ("[[speed]]", "[[haste]]", "UnknownKey, rule 0"),
+        (
+            "window = 10",
+            "window = 10\ncolour = 1",
+            "UnknownKey, rule 1",
+        ),
+        (BASE, "", "MissingKey, rule 0"),
+        ("window = 10\n", "", "MissingKey, rule 1"),
+        ("max = 1", "max = 0.5", "WrongKind, rule 1"),
+        ("max = 1", "max = \"one\"", "BadNumber, rule 1"),
+        ("min = -1", "min = 2", "Order, rule 1"),
+        ("per = 1", "per = 0", "OutOfLimit, rule 1"),
+        ("decimals = 0", "decimals = 7", "OutOfLimit, rule 0"),
+        (
+            "window = 10\n",
+            "window = 10\n[[between]]\nfirst = \"x\"\nsecond = \"x\"\nmin = 0\nmax = 1\n",
+            "SameSensor, rule 2",
+        ),
+    ];
+    for (part, other, fault) in cases {
+        let rules = changed(alloc, part, other)?;
+        assert_refused(&rt, alloc, rules.as_str(), fault)?;
+    }
+    let far =
+        "[format]\ndecimals = 6\n[[speed]]\nsensor = \"x\"\nmin = 0\nmax = 1000000000\nwindow = 100000000\n";
+    assert_refused(&rt, alloc, far, "ReachTooLarge, rule 1")
+}
+
+#[test]
+fn too_many_rules_and_too_long_a_file_are_named(rt: HostRuntime) -> Result<(), Fail> {
+    let alloc = rt.alloc();
+    let mut rules = String::from_str(alloc, "[format]\ndecimals = 0\n")?;
+    for _ in 0..1_001 {
+        rules.push_str("[[trust]]\nsensor = \"x\"\n")?;
+    }
+    assert_refused(&rt, alloc, rules.as_str(), "TooMany, rule 0")?;
+    let mut rules = String::from_str(alloc, BASE)?;
+    for _ in 0..1_048_576 / 8 {
+        rules.push_str("# space\n")?;
+    }
+    assert_refused(&rt, alloc, rules.as_str(), "FileTooLong, rule 0")
+}
+
+#[test]
+fn rules_that_are_not_narrow_are_not_built(rt: HostRuntime) -> Result<(), Fail> {
+    let alloc = rt.alloc();
+    let changes = [
+        ("decimals = 0", "decimals = 2"),
+        ("decimals = 0", "decimals = 0\nform = \"ms\""),
+        ("decimals = 0", "decimals = 0\nseparator = \";\""),
+        ("decimals = 0", "decimals = 0\ntime = \"when\""),
+        ("max = 1", "max = \"0.5\""),
+        ("max = 1", "max = 1000001"),
+        ("window = 10", "window = \"0.5\""),
+        ("\"x\"", "\"X\""),
+        ("[[speed]]", "[[trust]]\nsensor = \"x\"\n[[speed]]"),
+    ];
+    for (part, other) in changes {
+        let rules = changed(alloc, part, other)?;
+        assert_refused(&rt, alloc, rules.as_str(), "NotBuilt, rule 0")?;
+    }
+    Ok(())
+}
+
+#[test]
+fn narrow_rules_may_be_written_otherwise(rt: HostRuntime) -> Result<(), Fail> {
+    let alloc = rt.alloc();
+    let changes = [
+        ("max = 1", "max = \"1.0\""),
+        ("per = 1\n", ""),
+        (
+            "decimals = 0",
+            "decimals = 0\ntime = \"time\"\nextra = \"round\"\nhold = 9",
+        ),
+    ];
+    for (part, other) in changes {
+        let rules = changed(alloc, part, other)?;
+        global(alloc, rules.as_bytes(), READINGS)?.assert_is(
+            &rt,
+            Status::Done,
+            READINGS,
+            CERT,
+            b"",
+        );
+    }
     Ok(())
 }
 

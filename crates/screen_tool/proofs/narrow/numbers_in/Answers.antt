@@ -15,5 +15,5 @@ invariant_of-result c =
     let high = simp to_z-of_z at c.in_ok-max.ensures in
     rw (to_z-of_z w64 c.in_ok-min.min min_fits, to_z-of_z w64 c.in_ok-max.max max_fits) (record {
       within_limits = limits_from c.bytes-sensor.result.now rule.min.millionths rule.max.millionths c.in_ok-min.min c.in_ok-max.max rule.min.per c.in_ok-window.window
-      (c.is_sensor_name.ensures.0 c.if-not-is_sensor_name.false) low.0 high.0 rule.rates.ordered low.1 high.1 rule.rates.min.per_least (omega arith) c.in_ok-window.ensures.1;
+          (c.is_sensor_name.ensures.0 c.if-not-is_sensor_name.false) low.0 high.0 rule.rates.ordered low.1 high.1 rule.rates.min.per_least (omega arith) c.in_ok-window.ensures.1;
     })
