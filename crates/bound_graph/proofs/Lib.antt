@@ -1,0 +1,5 @@
+pub mod Arcs
+pub mod Degrees
+pub mod Groups
+pub mod Lists
+pub mod Nodes

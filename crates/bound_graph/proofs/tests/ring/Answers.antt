@@ -1,0 +1,21 @@
+use Rattle.std.proofs.Common.{ℕ, ◌+◌, ◌*◌, ◌/◌, ◌%◌, ◌^◌, ◌<◌, ◌≤◌, List, length, get_or, unsigned_abs, Contains, arith}
+use Rattle.std.proofs.lemmas.List.{length_push, get_or_default}
+use Rattle.screen_model.specs.declared.place.Place.{Place}
+use Rattle.bound_graph.specs.Graph.{HasEnds}
+use Rattle.bound_graph.proofs.Lists.{all_push}
+use Rattle.bound_graph.proofs.tests.ring.Goals as goal
+
+contains_at : (places : List Place) (k : ℕ) (d : Place) → k < length places → Contains places (get_or places k d)
+contains_at places k d lt = (k, lt, get_or_default places k (get_or places k d) d lt)
+
+pub loop-i-preserved : goal.loop-i-preserved
+loop-i-preserved c =
+    let before = c.loop-i.invariant in
+    let places = c.args.places.now in
+    let i = c.loop-i.i in
+    rw c.in_ok-push.ensures.ok (record {
+      ends = all_push (HasEnds places) c.loop-i.bounds c.range_bound.result before.ends
+          (rw c.range_bound.ensures (contains_at places (i % length places) _ (omega arith), contains_at places ((i + i / length places + 1) % length places) _ (omega arith)));
+      limits = all_push (λ bound. unsigned_abs bound.limit ≤ 4 * 10 ^ 15) c.loop-i.bounds c.range_bound.result before.limits (rw c.range_bound.ensures (omega arith));
+      size = omega (arith, length_push c.loop-i.bounds c.range_bound.result, before.size);
+    })

@@ -1,0 +1,4 @@
+pub mod Arcs
+pub mod Ends
+pub mod Graph
+pub mod Star

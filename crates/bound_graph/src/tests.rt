@@ -1,0 +1,172 @@
+ghost use Rattle.std.specs.Prelude.{◌≡◌, ◌<◌, ◌≤◌, ◌*◌, ◌^◌, length, unsigned_abs, IfOk};
+ghost use Rattle.std.specs.List.{AllByRecursion};
+ghost use Rattle.screen_model.specs.Lists.{Distinct};
+ghost use Rattle.bound_graph.specs.Graph.{HasEnds};
+
+use crate::{Arc, ArcList, ArcTable, Graph};
+use screen_model::{Bound, BoundList, BoundName, End, Place, Places, Side};
+use std::alloc::{AllocError, Global};
+use std::test::Fail;
+
+const PLACE: Place = Place { row: 1, col: 2 };
+
+/// 10^15, the range of every reading.
+const RANGE: i64 = 1_000_000_000_000_000;
+
+fn range_bound(side: Side, first: End, second: End) -> Bound
+    ensures { result ≡ record { name = record { rule = 0; from_row = 1; to_row = 1; col = 2; side = side }; first = first; second = second; limit = RANGE } }
+{
+    Bound {
+        name: BoundName {
+            rule: 0,
+            from_row: PLACE.row,
+            to_row: PLACE.row,
+            col: PLACE.col,
+            side,
+        },
+        first,
+        second,
+        limit: RANGE,
+    }
+}
+
+#[test]
+fn range_of_one_reading(rt: HostRuntime) -> Result<(), Fail> {
+    let mut places = Places::new(rt.alloc());
+    places.push(PLACE)?;
+    let mut bounds = BoundList::new(rt.alloc());
+    bounds.push(range_bound(Side::Up, End::Zero, End::At(PLACE)))?;
+    bounds.push(range_bound(Side::Down, End::At(PLACE), End::Zero))?;
+    let graph = Graph::from_bounds(rt.alloc(), &places, &bounds)?;
+    assert_eq!(rt; graph.nodes(), 2);
+    assert_eq!(rt; graph.arcs(), 2);
+    assert_eq!(rt;
+        graph.arc(0),
+        Some(Arc {
+            tail: 0,
+            head: 1,
+            cost: RANGE
+        })
+    );
+    assert_eq!(rt;
+        graph.arc(1),
+        Some(Arc {
+            tail: 1,
+            head: 0,
+            cost: RANGE
+        })
+    );
+    assert_eq!(rt; graph.arc(2), None);
+    assert_eq!(rt; graph.out_arcs(0), [0].as_slice());
+    assert_eq!(rt; graph.out_arcs(1), [1].as_slice());
+    Ok(())
+}
+
+/// How many arcs that are there enter a node.
+fn in_degree<A: ArcList>(list: &A, node: u32) -> u32 {
+    let mut count = 0;
+    for i in 0..list.arcs() {
+        if let Some(arc) = list.arc(i) {
+            if arc.head == node {
+                count += 1;
+            }
+        }
+    }
+    count
+}
+
+#[test]
+fn arcs_of_each_node(rt: HostRuntime) -> Result<(), Fail> {
+    let mut arcs = ArcTable::new(rt.alloc());
+    arcs.push(Arc {
+        tail: 3,
+        head: 0,
+        cost: -7,
+    })?;
+    arcs.push(Arc {
+        tail: 0,
+        head: 3,
+        cost: 5,
+    })?;
+    arcs.push(Arc {
+        tail: 3,
+        head: 3,
+        cost: 0,
+    })?;
+    arcs.push(Arc {
+        tail: 1,
+        head: 3,
+        cost: 2,
+    })?;
+    arcs.push(Arc {
+        tail: 3,
+        head: 0,
+        cost: -8,
+    })?;
+    let graph = Graph::from_arcs(rt.alloc(), 4, arcs)?;
+    assert_eq!(rt; graph.nodes(), 4);
+    assert_eq!(rt;
+        graph.arc(4),
+        Some(Arc {
+            tail: 3,
+            head: 0,
+            cost: -8
+        })
+    );
+    assert_eq!(rt; graph.out_arcs(0), [1].as_slice());
+    assert_eq!(rt; graph.out_arcs(1), [3].as_slice());
+    assert_eq!(rt; graph.out_arcs(2), [].as_slice());
+    assert_eq!(rt; graph.out_arcs(3), [0, 2, 4].as_slice());
+    assert_eq!(rt; in_degree(&graph, 0), 2);
+    assert_eq!(rt; in_degree(&graph, 3), 3);
+    assert_eq!(rt; in_degree(&graph, 2), 0);
+    Ok(())
+}
+
+/// The places of readings in one column, from row 1 on.
+fn column(alloc: Global, rows: u32) -> Result<Places, AllocError>
+    requires { rows < 2 ^ 20 }
+    ensures distinct { IfOk result Distinct }
+    ensures size { IfOk result (λ places. length places ≡ rows) }
+{
+    let mut places = Places::new(alloc);
+    for i in 0..rows {
+        places.push(Place { row: i + 1, col: 2 })?;
+    }
+    Ok(places)
+}
+
+/// From each reading four bounds, to the next four round a ring.
+fn ring(alloc: Global, places: &[Place]) -> Result<BoundList, AllocError>
+    requires some { 0 < length places.now }
+    requires small { length places.now < 2 ^ 20 }
+    ensures ends { IfOk result (AllByRecursion (HasEnds places.now)) }
+    ensures limits { IfOk result (AllByRecursion (λ bound. unsigned_abs bound.limit ≤ 4 * 10 ^ 15)) }
+    ensures size { IfOk result (λ bounds. length bounds ≡ 4 * length places.now) }
+{
+    let mut bounds = BoundList::new(alloc);
+    for i in 0..4 * places.len() {
+        let first = places[i % places.len()];
+        let second = places[(i + i / places.len() + 1) % places.len()];
+        bounds.push(range_bound(Side::Up, End::At(first), End::At(second)))?;
+    }
+    Ok(bounds)
+}
+
+#[test]
+fn many_bounds(rt: HostRuntime) -> Result<(), Fail> {
+    let places = column(rt.alloc(), 100_000)?;
+    let bounds = ring(rt.alloc(), places.as_slice())?;
+    let graph = Graph::from_bounds(rt.alloc(), &places, &bounds)?;
+    assert_eq!(rt; graph.arcs(), 400_000);
+    assert_eq!(rt; graph.out_arcs(0), [].as_slice());
+    assert_eq!(rt;
+        graph.out_arcs(1),
+        [0, 100_000, 200_000, 300_000].as_slice()
+    );
+    assert_eq!(rt;
+        graph.out_arcs(100_000),
+        [99_999, 199_999, 299_999, 399_999].as_slice()
+    );
+    Ok(())
+}

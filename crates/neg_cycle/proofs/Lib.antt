@@ -1,0 +1,13 @@
+pub mod ParentCycles
+pub mod Cycles
+pub mod Marked
+pub mod Ranked
+pub mod Ranking
+pub mod Relaxing
+pub mod Rotations
+pub mod Sweeping
+pub mod Totals
+pub mod Turned
+pub mod Unranked
+pub mod Walking
+pub mod Writing

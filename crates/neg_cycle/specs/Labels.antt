@@ -1,0 +1,70 @@
+-- Labels of nodes: a distance, a parent and a rank for each.
+use Rattle.std.specs.Prelude.{◌≡◌, ℕ, ◌+◌, ◌-◌, ◌*◌, ◌^◌, ◌<◌, ◌≤◌, Bool, true, false, ℤ, pos, ◌+ℤ◌, ◌≤ℤ◌, ◌<ℤ◌, ◌⊎◌, List, length, map, reverse, take, drop, Option, None, Some, get_or, All, MatchOption}
+use Rattle.screen_model.specs.Lists.{total}
+use Rattle.bound_graph.specs.declared.arc.Arc.{Arc}
+use Rattle.bound_graph.specs.Arcs.{arc_at, IsArc}
+use Rattle.neg_cycle.specs.Distances.{Obeys, AreAtMost}
+use Rattle.neg_cycle.specs.Cycle.{IsNegativeCycle}
+use Rattle.neg_cycle.specs.Forest.{parent_at}
+use Rattle.neg_cycle.specs.declared.forest.Parent.{Parent}
+
+-- The arc of the parent is there, from its tail to the node, and its sum at the tail is at most the node's
+-- distance. Where the sum is not below that, the tail has the lower rank.
+pub record IsParentOf (arcs : List (Option Arc)) (distances : List ℤ) (ranks : List ℕ) (node : ℕ) (parent : Parent) : Type 0 where
+  pub arc : Arc
+  pub there : arc_at arcs parent.arc ≡ Some arc
+  pub valid : IsArc (length distances) arc
+  pub tail : arc.tail ≡ parent.tail
+  pub head : arc.head ≡ node
+  pub reached : (get_or distances parent.tail (pos 0) +ℤ arc.cost) ≤ℤ get_or distances node (pos 0)
+  pub strict : ((get_or distances parent.tail (pos 0) +ℤ arc.cost) <ℤ get_or distances node (pos 0)) ⊎ (get_or ranks parent.tail 0 < get_or ranks node 0)
+
+-- the distance is no further below 0 than so many of the greatest costs
+abbrev pub IsWithin : ℕ → ℤ → Type 0
+IsWithin costs distance = pos 0 ≤ℤ (distance +ℤ pos (4 * 10 ^ 15 * costs))
+
+-- Each node has a distance, a rank below the bound, and a parent or none. One that has none is where it started, and
+-- none has fallen by more than a greatest cost for each rank below the bound.
+pub record AreLabels (arcs : List (Option Arc)) (bound : ℕ) (distances : List ℤ) (parents : List (Option Parent)) (ranks : List ℕ) : Type 0 where
+  pub parents_of : length parents ≡ length distances
+  pub ranks_of : length ranks ≡ length distances
+  pub bounded : (node : ℕ) → node < length distances → get_or ranks node 0 < bound
+  pub high : (node : ℕ) → node < length distances → get_or distances node (pos 0) ≤ℤ pos (4 * 10 ^ 15)
+  pub low : (node : ℕ) → node < length distances → IsWithin bound (get_or distances node (pos 0))
+  pub each : (node : ℕ) → node < length distances → MatchOption (parent_at parents node) (IsWithin 1 (get_or distances node (pos 0))) (IsParentOf arcs distances ranks node)
+
+-- The new distances are at most the old ones, and no list that obeys and is at most the old ones is anywhere above them.
+pub record Lowers (arcs : List (Option Arc)) (old new : List ℤ) : Type 0 where
+  pub below : AreAtMost new old
+  pub keeps : (other : List ℤ) → AreAtMost other old → Obeys arcs other → AreAtMost other new
+
+-- what a sweep that answers whether it lowered anything did to the distances
+abbrev pub Fell : Bool → List ℤ → List ℤ → Type 0
+Fell false old new = new ≡ old
+Fell true old new = total new <ℤ total old
+
+-- the number of the arc that a node has from its parent, and 0 where it has none
+abbrev pub arc_of : Option Parent → ℕ
+arc_of None = 0
+arc_of (Some parent) = parent.arc
+
+-- the numbers of the arcs that nodes have from their parents, from the last node to the first
+abbrev pub arcs_of : List (Option Parent) → List ℕ → List ℕ
+arcs_of parents nodes = map (λ node. arc_of (parent_at parents node)) (reverse nodes)
+
+-- The nodes from the start up to the end of a stretch of the path have parents whose arcs are a cycle with a
+-- negative sum.
+pub record HoldsCycle (arcs : List (Option Arc)) (parents : List (Option Parent)) (path : List ℕ) (start end : ℕ) : Type 0 where
+  pub ordered : start ≤ end
+  pub within : end ≤ length path
+  pub nodes : All (λ node. node < length parents) (take (end - start) (drop start path))
+  pub negative : IsNegativeCycle arcs (arcs_of parents (take (end - start) (drop start path)))
+
+-- a room's lists have an entry for each node, and its cycle stands within the list for it
+pub record IsRoom (nodes parents ranks path list cycle_len : ℕ) : Type 0 where
+  pub has_parents : parents ≡ nodes
+  pub has_ranks : ranks ≡ nodes
+  pub has_path : path ≡ nodes
+  pub has_list : list ≡ nodes
+  pub within : cycle_len ≤ list
+  pub few : nodes < 2 ^ 32

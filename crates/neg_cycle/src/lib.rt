@@ -1,0 +1,16 @@
+//! The greatest distances that obey the arcs of a graph, or a cycle of arcs with a negative sum.
+//!
+//! The method is that of Bellman and Ford, with sweeps over the arcs in alternating direction and with the
+//! cycles found early, by a walk of the parents after each two sweeps, as Tarjan proposed.
+#![tactic(auto)]
+
+mod cycle;
+mod forest;
+mod labels;
+mod room;
+mod sweep;
+#[cfg(test)]
+mod tests;
+
+pub use room::Room;
+pub use sweep::{Settled, no_list_obeys, settle};

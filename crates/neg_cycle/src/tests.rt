@@ -1,0 +1,136 @@
+ghost use Rattle.std.specs.Prelude.{◌≡◌, ◌<◌, ◌^◌, length, All, IfOk, IfSome};
+ghost use Rattle.std.proofs.Props.{props};
+ghost use Rattle.bound_graph.specs.Arcs.{IsArc};
+
+use crate::{Room, Settled, no_list_obeys, settle};
+use bound_graph::{Arc, ArcList};
+use std::alloc::{AllocError, Global};
+use std::test::Fail;
+
+/// Arcs between nodes, of which some may not be there.
+#[derive(Drop)]
+struct Table {
+    nodes: u32,
+    arcs: Vec<Option<Arc>>,
+    ghost few: { length arcs.items < 2 ^ 32 },
+    ghost valid: { All (λ arc. IfSome arc (IsArc nodes)) arcs.items } by { Prim.hlevel props },
+}
+
+impl Table {
+    /// The arcs with these tails, heads and costs. Where an end is no node, the arc is not there.
+    fn of(alloc: Global, nodes: u32, rows: &[(u32, u32, i32)]) -> Result<Table, AllocError>
+        requires { length rows.now < 2 ^ 32 }
+        ensures { IfOk result (λ table. table.nodes ≡ nodes) }
+    {
+        let mut arcs = Vec::new(alloc);
+        for row in rows {
+            arcs.push(arc_between(nodes, *row))?;
+        }
+        Ok(Table { nodes, arcs })
+    }
+}
+
+fn arc_between(nodes: u32, row: (u32, u32, i32)) -> Option<Arc>
+    ensures { IfSome result (IsArc nodes) }
+{
+    let (tail, head, cost) = row;
+    let is_there = tail < nodes && head < nodes;
+    is_there.then_some(Arc {
+        tail,
+        head,
+        cost: i64::from(cost),
+    })
+}
+
+impl ArcList for Table {
+    ghost node_count = { λ table. table.nodes };
+
+    ghost listed = { λ table. table.arcs.items };
+
+    fn nodes(&self) -> u32 {
+        self.nodes
+    }
+
+    fn arcs(&self) -> u32 {
+        self.arcs.len() as u32
+    }
+
+    fn arc(&self, i: u32) -> Option<Arc> {
+        self.arcs.get(i as usize).copied().flatten()
+    }
+}
+
+/// What settling from these starts comes to, with the distances and the numbers of a cycle's arcs.
+fn settled(
+    alloc: Global,
+    table: &Table,
+    starts: &[i32],
+) -> Result<(Settled, Vec<i128>, Vec<u32>), AllocError>
+    requires { length starts.now ≡ table.now.nodes }
+{
+    let mut room = Room::for_nodes(alloc, table.nodes)?;
+    for (node, start) in starts.iter().enumerate() {
+        room.start(node as u32, i64::from(*start));
+    }
+    let settled = settle(table, &mut room);
+    let mut distances = Vec::new(alloc);
+    for node in 0..table.nodes {
+        distances.push(room.distance(node))?;
+    }
+    let mut cycle = Vec::new(alloc);
+    for i in 0..room.cycle_len() {
+        cycle.extend(room.cycle_arc(i))?;
+    }
+    Ok((settled, distances, cycle))
+}
+
+#[test]
+fn the_greatest_distances_are_found(rt: HostRuntime) -> Result<(), Fail> {
+    // A textbook's example of this method, with the distances that it gives.
+    let table = Table::of(
+        rt.alloc(),
+        5,
+        &[
+            (0, 1, 6),
+            (0, 3, 7),
+            (1, 2, 5),
+            (1, 3, 8),
+            (1, 4, -4),
+            (2, 1, -2),
+            (3, 2, -3),
+            (3, 4, 9),
+            (4, 2, 7),
+            (4, 0, 2),
+        ],
+    )?;
+    let (outcome, distances, cycle) = settled(rt.alloc(), &table, &[0, 99, 99, 99, 99])?;
+    assert_eq!(rt; outcome, Settled::Greatest);
+    assert_eq!(rt; distances.as_slice(), [0, 2, 4, 7, -2].as_slice());
+    assert_eq!(rt; cycle.len(), 0);
+    Ok(())
+}
+
+#[test]
+fn a_cycle_with_a_negative_sum_is_found(rt: HostRuntime) -> Result<(), Fail> {
+    let table = Table::of(rt.alloc(), 2, &[(0, 1, 1), (1, 0, -2)])?;
+    let (outcome, _, cycle) = settled(rt.alloc(), &table, &[0, 0])?;
+    assert_eq!(rt; outcome, Settled::Cycle);
+    assert_eq!(rt;
+        (cycle.len(), cycle.contains(&0), cycle.contains(&1)),
+        (2, true, true)
+    );
+    no_list_obeys();
+    Ok(())
+}
+
+#[test]
+fn a_cycle_with_the_sum_0_and_an_arc_that_is_not_there_are_obeyed(
+    rt: HostRuntime,
+) -> Result<(), Fail> {
+    let table = Table::of(rt.alloc(), 2, &[(0, 1, 1), (1, 2, -9), (1, 0, -1)])?;
+    let (outcome, distances, cycle) = settled(rt.alloc(), &table, &[0, 10])?;
+    assert_eq!(rt; outcome, Settled::Greatest);
+    assert_eq!(rt; distances.as_slice(), [0, 1].as_slice());
+    assert_eq!(rt; cycle.len(), 0);
+    Ok(())
+}
