@@ -2,21 +2,25 @@
 # Runs a proved function and its plain twin in turn on the same inputs, and prints the best time of each for
 # one item and the ratio of the proved time to the plain one.
 #
-# usage: bench/run.sh units|records [ROUNDS]
+# usage: bench/run.sh units|records|settle|blocked [ROUNDS]
 set -euo pipefail
 cd "$(dirname "$0")/.."
-what=${1:?usage: bench/run.sh units|records [ROUNDS]}
+what=${1:?usage: bench/run.sh units|records|settle|blocked [ROUNDS]}
 rounds=${2:-5}
 
+# The blocked chain is settled by the same twin as the other one.
+twin=$what
+[ "$what" != blocked ] || twin=settle
+
 mkdir -p bench/out
-rustc -O -o "bench/out/$what" "bench/twins/$what.rs"
+rustc -O -o "bench/out/$twin" "bench/twins/$twin.rs"
 (cd crates/measure && rt run) > bench/out/build.log 2>&1 || true
 proved=crates/measure/out/measure
 test -x "$proved" || { tail -n 20 bench/out/build.log; exit 1; }
 
 best_plain= best_proved=
 for _ in $(seq "$rounds"); do
-    read -r plain_time plain_sum < <("bench/out/$what")
+    read -r plain_time plain_sum < <("bench/out/$twin" "$what")
     read -r proved_time proved_sum < <("$proved" "$what")
     [ "$plain_sum" = "$proved_sum" ] || { echo "the answers differ: $plain_sum and $proved_sum"; exit 1; }
     [ -n "$best_plain" ] && [ "$best_plain" -le "$plain_time" ] || best_plain=$plain_time

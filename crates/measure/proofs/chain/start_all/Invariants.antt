@@ -1,0 +1,8 @@
+use Rattle.std.proofs.Common.{◌≡◌, ◌*◌, ◌^◌, ◌≤◌, length, All, unsigned_abs}
+use Rattle.measure.proofs.chain.start_all.Given as goal
+
+abbrev pub invariant-loop-node : goal.invariant-loop-node
+invariant-loop-node l = record {
+  nodes : length l.room.distances ≡ l.nodes;
+  small : All (λ start. unsigned_abs start ≤ 4 * 10 ^ 15) l.room.distances;
+}
