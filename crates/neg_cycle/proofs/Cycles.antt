@@ -12,7 +12,7 @@ use Rattle.neg_cycle.specs.declared.forest.Parent.{Parent}
 use Rattle.neg_cycle.specs.Distances.{Keeps, Obeys}
 use Rattle.neg_cycle.specs.Cycle.{IsNegativeCycle}
 use Rattle.neg_cycle.specs.Forest.{parent_at, IsParentCycle}
-use Rattle.neg_cycle.specs.Labels.{IsParentOf, IsWithin, AreLabels, HoldsCycle, arc_of, arcs_of}
+use Rattle.neg_cycle.specs.Labels.{IsParentOf, IsWithin, IsLabelling, HoldsCycle, arc_of, arcs_of}
 use Rattle.neg_cycle.proofs.Rotations.{map-rotated, map-reverse, rotated-reverse-rotated, distinct_rotated, distinct_reverse}
 use Rattle.neg_cycle.proofs.Totals.{total-rotated, total-reverse}
 
@@ -81,7 +81,7 @@ walk_on arcs distances ranks node nodes step steps here rest =
     }
 
 -- a node that has a parent is among the nodes
-has_label : (arcs : List (Option Arc)) (bound : ℕ) (distances : List ℤ) (parents : List (Option Parent)) (ranks : List ℕ) (node : ℕ) (parent : Parent) → AreLabels arcs bound distances parents ranks → parent_at parents node ≡ Some parent → IsParentOf arcs distances ranks node parent
+has_label : (arcs : List (Option Arc)) (bound : ℕ) (distances : List ℤ) (parents : List (Option Parent)) (ranks : List ℕ) (node : ℕ) (parent : Parent) → IsLabelling arcs bound distances parents ranks → parent_at parents node ≡ Some parent → IsParentOf arcs distances ranks node parent
 has_label arcs bound distances parents ranks node parent labels is =
     ⊎_elim
     (λ (within : node < length parents).
@@ -105,7 +105,7 @@ nodes_within parents (node ∷ nodes) (step ∷ steps) are =
 pub all_within : (parents : List (Option Parent)) (nodes : List ℕ) → IsParentCycle parents nodes → All (λ node. node < length parents) nodes
 all_within parents nodes round = All-from_recursion (λ node. node < length parents) nodes (nodes_within parents nodes round.steps round.parents_of)
 
-walk : (arcs : List (Option Arc)) (bound : ℕ) (distances : List ℤ) (parents : List (Option Parent)) (ranks : List ℕ) (nodes : List ℕ) (steps : List Parent) → AreLabels arcs bound distances parents ranks → map (parent_at parents) nodes ≡ map Some steps → Walk arcs distances ranks nodes steps
+walk : (arcs : List (Option Arc)) (bound : ℕ) (distances : List ℤ) (parents : List (Option Parent)) (ranks : List ℕ) (nodes : List ℕ) (steps : List Parent) → IsLabelling arcs bound distances parents ranks → map (parent_at parents) nodes ≡ map Some steps → Walk arcs distances ranks nodes steps
 walk arcs bound distances parents ranks [] [] labels are = record { walked = []; there = refl; heads = refl; tails = refl; reached = omega (arith, ints); strict = inr (omega (arith, ints)) }
 walk arcs bound distances parents ranks [] (step ∷ steps) labels are = absurd cc
 walk arcs bound distances parents ranks (node ∷ nodes) [] labels are = absurd cc
@@ -136,7 +136,7 @@ negative_sum arcs distances ranks nodes steps way some closed =
     way.strict
 
 -- the arcs of a cycle of parents, against the order of its nodes
-pub negative_cycle : (arcs : List (Option Arc)) (bound : ℕ) (distances : List ℤ) (parents : List (Option Parent)) (ranks : List ℕ) (nodes : List ℕ) → AreLabels arcs bound distances parents ranks → IsParentCycle parents nodes → IsNegativeCycle arcs (arcs_of parents nodes)
+pub negative_cycle : (arcs : List (Option Arc)) (bound : ℕ) (distances : List ℤ) (parents : List (Option Parent)) (ranks : List ℕ) (nodes : List ℕ) → IsLabelling arcs bound distances parents ranks → IsParentCycle parents nodes → IsNegativeCycle arcs (arcs_of parents nodes)
 negative_cycle arcs bound distances parents ranks nodes labels round =
     let steps = round.steps in
     let way = walk arcs bound distances parents ranks nodes steps labels round.parents_of in
@@ -156,7 +156,7 @@ negative_cycle arcs bound distances parents ranks nodes labels round =
     }
 
 -- what is found where such a cycle stands in a stretch of a path
-pub holds_cycle : (arcs : List (Option Arc)) (bound : ℕ) (distances : List ℤ) (parents : List (Option Parent)) (ranks path : List ℕ) (start end : ℕ) → AreLabels arcs bound distances parents ranks → start ≤ end → end ≤ length path → IsParentCycle parents (take (end - start) (drop start path)) → HoldsCycle arcs parents path start end
+pub holds_cycle : (arcs : List (Option Arc)) (bound : ℕ) (distances : List ℤ) (parents : List (Option Parent)) (ranks path : List ℕ) (start end : ℕ) → IsLabelling arcs bound distances parents ranks → start ≤ end → end ≤ length path → IsParentCycle parents (take (end - start) (drop start path)) → HoldsCycle arcs parents path start end
 holds_cycle arcs bound distances parents ranks path start end labels ordered within round = record {
   ordered = ordered;
   within = within;

@@ -8,7 +8,7 @@ use Rattle.screen_model.specs.Lists.{total}
 use Rattle.bound_graph.specs.declared.arc.Arc.{Arc}
 use Rattle.neg_cycle.specs.declared.forest.Parent.{Parent}
 use Rattle.neg_cycle.specs.Forest.{parent_at, IsRanking}
-use Rattle.neg_cycle.specs.Labels.{IsParentOf, IsWithin, AreLabels, Fell}
+use Rattle.neg_cycle.specs.Labels.{IsParentOf, IsWithin, IsLabelling, Fell}
 use Rattle.neg_cycle.proofs.Relaxing.{cost_low}
 use Rattle.neg_cycle.proofs.Totals.{total_low}
 
@@ -45,7 +45,7 @@ low_by_rank arcs distances parents ranks fresh each falls (suc bound) node h bel
     step_low arcs distances ranks fresh bound node (parent_at parents node) (each node h) (falls node) below (low_by_rank arcs distances parents ranks fresh each falls bound)
 
 -- the labels with a fresh ranking
-pub ranked : (arcs : List (Option Arc)) (bound : ℕ) (distances : List ℤ) (parents : List (Option Parent)) (ranks fresh : List ℕ) → AreLabels arcs bound distances parents ranks → IsRanking parents fresh → AreLabels arcs (length distances) distances parents fresh
+pub ranked : (arcs : List (Option Arc)) (bound : ℕ) (distances : List ℤ) (parents : List (Option Parent)) (ranks fresh : List ℕ) → IsLabelling arcs bound distances parents ranks → IsRanking parents fresh → IsLabelling arcs (length distances) distances parents fresh
 ranked arcs bound distances parents ranks fresh labels ranking =
     let bounded : (node : ℕ) → node < length distances → get_or fresh node 0 < length distances =
     λ node h. let small = ranking.small node 0 (omega (arith, ranking.nodes, labels.parents_of)) in omega (arith, labels.parents_of) in
@@ -66,31 +66,9 @@ tail_within arcs distances ranks node count (Some parent) same label =
     let is = label.tail in
     omega arith
 
-pub tails_within : (arcs : List (Option Arc)) (bound : ℕ) (distances : List ℤ) (parents : List (Option Parent)) (ranks : List ℕ) → AreLabels arcs bound distances parents ranks → All (λ parent. IfSome parent (λ p. p.tail < length parents)) parents
+pub tails_within : (arcs : List (Option Arc)) (bound : ℕ) (distances : List ℤ) (parents : List (Option Parent)) (ranks : List ℕ) → IsLabelling arcs bound distances parents ranks → All (λ parent. IfSome parent (λ p. p.tail < length parents)) parents
 tails_within arcs bound distances parents ranks labels =
     All-from_get_or (λ (parent : Option Parent). IfSome parent (λ p. p.tail < length parents)) parents None (λ node h. tail_within arcs distances ranks node (length parents) (parent_at parents node) labels.parents_of (labels.each node (omega (arith, labels.parents_of))))
-
--- a start is no further from 0 than a greatest cost
-start_low : (start : ℤ) (size : ℕ) → unsigned_abs start ≤ size → (pos 0 ≤ℤ (start +ℤ pos size)) × (start ≤ℤ pos size)
-start_low (pos n) size h = (omega (arith, ints), omega (arith, ints))
-start_low (negsuc n) size h = (omega (arith, ints), omega (arith, ints))
-
--- the labels before the first arc is tried
-pub started : (arcs : List (Option Arc)) (distances : List ℤ) (parents : List (Option Parent)) (ranks : List ℕ) → All (λ start. unsigned_abs start ≤ 4 * 10 ^ 15) distances → parents ≡ replicate (length distances) None → ranks ≡ replicate (length distances) 0 → AreLabels arcs (length distances) distances parents ranks
-started arcs distances parents ranks small no_parents no_ranks =
-    let low : (node : ℕ) → node < length distances → pos 0 ≤ℤ (get_or distances node (pos 0) +ℤ pos (4 * 10 ^ 15)) = λ node h. (start_low (get_or distances node (pos 0)) (4 * 10 ^ 15) (small node (pos 0) h)).0 in
-    record {
-      parents_of = ap (λ (l : List (Option Parent)). length l) no_parents ∙ length-replicate (length distances) None;
-      ranks_of = ap (λ (l : List ℕ). length l) no_ranks ∙ length-replicate (length distances) 0;
-      bounded = λ node h.
-          let zeros : get_or ranks node 0 ≡ 0 = rw no_ranks (get_or-replicate (length distances) node 0 0 h) in
-          omega arith;
-      high = λ node h. (start_low (get_or distances node (pos 0)) (4 * 10 ^ 15) (small node (pos 0) h)).1;
-      low = λ node h. let here = low node h in omega (arith, ints);
-      each = λ node h.
-          let none : parent_at parents node ≡ None = rw no_parents (get_or-replicate (length distances) node None None h) in
-          rw none (low node h);
-    }
 
 -- how far the distances together are above the least that a ranking leaves them
 pub height : List ℤ → ℕ
@@ -101,7 +79,7 @@ size_falls (pos a) (pos b) low below = omega (arith, ints)
 size_falls (pos a) (negsuc b) low below = absurd (omega (arith, ints))
 size_falls (negsuc a) b low below = absurd (omega (arith, ints))
 
-pub height_falls : (arcs : List (Option Arc)) (old new : List ℤ) (parents : List (Option Parent)) (ranks : List ℕ) → length new ≡ length old → AreLabels arcs (length new) new parents ranks → Fell true old new → height new < height old
+pub height_falls : (arcs : List (Option Arc)) (old new : List ℤ) (parents : List (Option Parent)) (ranks : List ℕ) → length new ≡ length old → IsLabelling arcs (length new) new parents ranks → Fell true old new → height new < height old
 unfolding height
 height_falls arcs old new parents ranks same labels fell =
     let low = total_low new (4 * 10 ^ 15 * length new) labels.low in

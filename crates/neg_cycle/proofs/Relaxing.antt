@@ -8,7 +8,7 @@ use Rattle.bound_graph.specs.Arcs.{arc_at, IsArc}
 use Rattle.neg_cycle.specs.declared.forest.Parent.{Parent}
 use Rattle.neg_cycle.specs.Distances.{Keeps, Obeys, AreAtMost}
 use Rattle.neg_cycle.specs.Forest.{parent_at}
-use Rattle.neg_cycle.specs.Labels.{IsParentOf, IsWithin, AreLabels, Lowers, Fell}
+use Rattle.neg_cycle.specs.Labels.{IsParentOf, IsWithin, IsLabelling, Lowers, Fell}
 use Rattle.neg_cycle.specs.declared.labels.Labels.{Labels}
 use Rattle.neg_cycle.proofs.Totals.{total_falls}
 
@@ -110,7 +110,7 @@ label_kept arcs distances ranks head sum rank node None has falls ne old = rw (s
 label_kept arcs distances ranks head sum rank node (Some parent) has falls ne old = parent_kept arcs distances ranks head sum rank node parent has falls ne old
 
 -- the labels after an arc lowered its head
-pub relaxed : (arcs : List (Option Arc)) (bound : ℕ) (distances : List ℤ) (parents : List (Option Parent)) (ranks : List ℕ) (i : ℕ) (arc : Arc) (sum : ℤ) → AreLabels arcs bound distances parents ranks → arc_at arcs i ≡ Some arc → IsArc (length distances) arc → sum ≡ get_or distances arc.tail (pos 0) +ℤ arc.cost → sum <ℤ get_or distances arc.head (pos 0) → AreLabels arcs (bound + 1) (set distances arc.head sum) (set parents arc.head (Some (record { arc = i; tail = arc.tail }))) (set ranks arc.head bound)
+pub relaxed : (arcs : List (Option Arc)) (bound : ℕ) (distances : List ℤ) (parents : List (Option Parent)) (ranks : List ℕ) (i : ℕ) (arc : Arc) (sum : ℤ) → IsLabelling arcs bound distances parents ranks → arc_at arcs i ≡ Some arc → IsArc (length distances) arc → sum ≡ get_or distances arc.tail (pos 0) +ℤ arc.cost → sum <ℤ get_or distances arc.head (pos 0) → IsLabelling arcs (bound + 1) (set distances arc.head sum) (set parents arc.head (Some (record { arc = i; tail = arc.tail }))) (set ranks arc.head bound)
 relaxed arcs bound distances parents ranks i arc sum labels there is_arc is falls =
     let lengths = length-set distances arc.head sum in
     let has_rank : arc.head < length ranks = omega (arith, is_arc.head, labels.ranks_of) in
@@ -153,7 +153,7 @@ relaxed arcs bound distances parents ranks i arc sum labels there is_arc is fall
     }
 
 -- a greater bound
-pub higher : (arcs : List (Option Arc)) (bound more : ℕ) (distances : List ℤ) (parents : List (Option Parent)) (ranks : List ℕ) → bound ≤ more → AreLabels arcs bound distances parents ranks → AreLabels arcs more distances parents ranks
+pub higher : (arcs : List (Option Arc)) (bound more : ℕ) (distances : List ℤ) (parents : List (Option Parent)) (ranks : List ℕ) → bound ≤ more → IsLabelling arcs bound distances parents ranks → IsLabelling arcs more distances parents ranks
 higher arcs bound more distances parents ranks at_most labels = record {
   parents_of = labels.parents_of;
   ranks_of = labels.ranks_of;
@@ -186,12 +186,12 @@ lowers_trans arcs old middle new first second = record {
 
 -- what is said of the labels before and after an arc that is there is tried
 pub record Tried (arcs : List (Option Arc)) (bound i : ℕ) (fell : Bool) (old new : Labels) : Type 0 where
-  pub labels : AreLabels arcs (bound + 1) new.distances.items new.parents.items new.ranks.items
+  pub labels : IsLabelling arcs (bound + 1) new.distances.items new.parents.items new.ranks.items
   pub lowers : Lowers arcs old.distances.items new.distances.items
   pub falls : Fell fell old.distances.items new.distances.items
   pub kept : fell ≡ false → Keeps new.distances.items (arc_at arcs i)
 
-pub tried : (arcs : List (Option Arc)) (bound i : ℕ) (arc : Arc) (fell : Bool) (old new : Labels) → AreLabels arcs bound old.distances.items old.parents.items old.ranks.items → arc_at arcs i ≡ Some arc → IsArc (length old.distances.items) arc → IsTrue fell ↔ ((get_or old.distances.items arc.tail (pos 0) +ℤ arc.cost) <ℤ get_or old.distances.items arc.head (pos 0)) → (fell ≡ false → new ≡ old) → (fell ≡ true → new.distances.items ≡ set old.distances.items arc.head (get_or old.distances.items arc.tail (pos 0) +ℤ arc.cost)) → (fell ≡ true → new.parents.items ≡ set old.parents.items arc.head (Some (record { arc = i; tail = arc.tail }))) → (fell ≡ true → new.ranks.items ≡ set old.ranks.items arc.head bound) → Tried arcs bound i fell old new
+pub tried : (arcs : List (Option Arc)) (bound i : ℕ) (arc : Arc) (fell : Bool) (old new : Labels) → IsLabelling arcs bound old.distances.items old.parents.items old.ranks.items → arc_at arcs i ≡ Some arc → IsArc (length old.distances.items) arc → IsTrue fell ↔ ((get_or old.distances.items arc.tail (pos 0) +ℤ arc.cost) <ℤ get_or old.distances.items arc.head (pos 0)) → (fell ≡ false → new ≡ old) → (fell ≡ true → new.distances.items ≡ set old.distances.items arc.head (get_or old.distances.items arc.tail (pos 0) +ℤ arc.cost)) → (fell ≡ true → new.parents.items ≡ set old.parents.items arc.head (Some (record { arc = i; tail = arc.tail }))) → (fell ≡ true → new.ranks.items ≡ set old.ranks.items arc.head bound) → Tried arcs bound i fell old new
 tried arcs bound i arc true old new labels there is_arc when same distances parents ranks =
     let sum : ℤ = get_or old.distances.items arc.tail (pos 0) +ℤ arc.cost in
     let falls : sum <ℤ get_or old.distances.items arc.head (pos 0) = when.0 refl in

@@ -7,6 +7,7 @@ use Rattle.neg_cycle.specs.Distances.{Obeys, AreAtMost}
 use Rattle.neg_cycle.specs.Cycle.{IsNegativeCycle}
 use Rattle.neg_cycle.specs.Forest.{parent_at}
 use Rattle.neg_cycle.specs.declared.forest.Parent.{Parent}
+use Rattle.neg_cycle.specs.declared.labels.Labels.{Labels}
 
 -- The arc of the parent is there, from its tail to the node, and its sum at the tail is at most the node's
 -- distance. Where the sum is not below that, the tail has the lower rank.
@@ -23,9 +24,9 @@ pub record IsParentOf (arcs : List (Option Arc)) (distances : List ℤ) (ranks :
 abbrev pub IsWithin : ℕ → ℤ → Type 0
 IsWithin costs distance = pos 0 ≤ℤ (distance +ℤ pos (4 * 10 ^ 15 * costs))
 
--- Each node has a distance, a rank below the bound, and a parent or none. One that has none is where it started, and
--- none has fallen by more than a greatest cost for each rank below the bound.
-pub record AreLabels (arcs : List (Option Arc)) (bound : ℕ) (distances : List ℤ) (parents : List (Option Parent)) (ranks : List ℕ) : Type 0 where
+-- Each node has a rank below the bound, and a parent or none. Its distance is at most the greatest cost, and no further
+-- below 0 than the bound times that; if it has no parent, no further than once that.
+pub record IsLabelling (arcs : List (Option Arc)) (bound : ℕ) (distances : List ℤ) (parents : List (Option Parent)) (ranks : List ℕ) : Type 0 where
   pub parents_of : length parents ≡ length distances
   pub ranks_of : length ranks ≡ length distances
   pub bounded : (node : ℕ) → node < length distances → get_or ranks node 0 < bound
@@ -33,12 +34,16 @@ pub record AreLabels (arcs : List (Option Arc)) (bound : ℕ) (distances : List 
   pub low : (node : ℕ) → node < length distances → IsWithin bound (get_or distances node (pos 0))
   pub each : (node : ℕ) → node < length distances → MatchOption (parent_at parents node) (IsWithin 1 (get_or distances node (pos 0))) (IsParentOf arcs distances ranks node)
 
+-- the same of labels as they stand in memory
+abbrev pub AreLabels : List (Option Arc) → ℕ → Labels → Type 0
+AreLabels arcs bound labels = IsLabelling arcs bound labels.distances.items labels.parents.items labels.ranks.items
+
 -- The new distances are at most the old ones, and no list that obeys and is at most the old ones is anywhere above them.
 pub record Lowers (arcs : List (Option Arc)) (old new : List ℤ) : Type 0 where
   pub below : AreAtMost new old
   pub keeps : (other : List ℤ) → AreAtMost other old → Obeys arcs other → AreAtMost other new
 
--- what a sweep that answers whether it lowered anything did to the distances
+-- what became of distances, by whether any was lowered
 abbrev pub Fell : Bool → List ℤ → List ℤ → Type 0
 Fell false old new = new ≡ old
 Fell true old new = total new <ℤ total old
@@ -52,8 +57,7 @@ arc_of (Some parent) = parent.arc
 abbrev pub arcs_of : List (Option Parent) → List ℕ → List ℕ
 arcs_of parents nodes = map (λ node. arc_of (parent_at parents node)) (reverse nodes)
 
--- The nodes from the start up to the end of a stretch of the path have parents whose arcs are a cycle with a
--- negative sum.
+-- The nodes of the path from `start` up to `end` have parents, whose arcs are a cycle with a negative sum.
 pub record HoldsCycle (arcs : List (Option Arc)) (parents : List (Option Parent)) (path : List ℕ) (start end : ℕ) : Type 0 where
   pub ordered : start ≤ end
   pub within : end ≤ length path

@@ -2,7 +2,7 @@
 ghost use Rattle.std.specs.Prelude.{◌≡◌, ◌≢◌, ◌<◌, ◌≤◌, ◌+◌, ◌-◌, ◌^◌, ◌⊎◌, ℕ, List, length, take, drop, get_or, [], All, IfSome};
 ghost use Rattle.std.specs.Prelude.{MatchOption};
 ghost use Rattle.neg_cycle.specs.Forest.{IsRanking, IsParentCycle};
-ghost use Rattle.neg_cycle.specs.Walk.{IsWalk, Tells, StayRanked, rank_at, unranked};
+ghost use Rattle.neg_cycle.specs.ForestWalk.{IsWalk, Tells, StayRanked, rank_at, unranked};
 
 /// The rank of a node that has none.
 const UNRANKED: u64 = u64::MAX;
@@ -30,7 +30,8 @@ enum Walk {
     Cycle(Stretch),
 }
 
-/// Walks from a node along parents, and marks each node that it meets with its place.
+/// Walks from a node along parents to a node that has a rank or has no parent. The nodes met stand at the
+/// front of the path, and each has as its rank its place in the walk, counted from the number of nodes done.
 fn walk_up(
     parents: &[Option<Parent>],
     done: usize,
@@ -71,7 +72,7 @@ fn walk_up(
     }
 }
 
-/// Ranks the nodes of a walk from its end on.
+/// Ranks the nodes of a walk from its end on, above the nodes that are done.
 fn rank_walk(walk: &[u32], done: usize, ranks: &mut Vec<u64>)
     requires small { done + length walk.now ≤ length ranks.old.items }
     requires few { length ranks.old.items < 2 ^ 32 }

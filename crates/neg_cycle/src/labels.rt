@@ -30,8 +30,8 @@ pub(crate) fn forget(labels: &mut Labels)
 pub(crate) fn relax<A: ArcList>(arcs: &A, i: u32, rank: u64, labels: &mut Labels) -> bool
     requires nodes { length labels.old.distances.items ≡ A.node_count arcs.now }
     requires rank { rank < 2 ^ 34 }
-    requires labels { AreLabels (A.listed arcs.now) rank labels.old.distances.items labels.old.parents.items labels.old.ranks.items }
-    ensures labels { AreLabels (A.listed arcs.now) (rank + 1) labels.new.distances.items labels.new.parents.items labels.new.ranks.items }
+    requires labels { AreLabels (A.listed arcs.now) rank labels.old }
+    ensures labels { AreLabels (A.listed arcs.now) (rank + 1) labels.new }
     ensures lowers { Lowers (A.listed arcs.now) labels.old.distances.items labels.new.distances.items }
     ensures fell { Fell result labels.old.distances.items labels.new.distances.items }
     ensures kept { result ≡ false → Keeps labels.new.distances.items (arc_at (A.listed arcs.now) i) }

@@ -1,5 +1,6 @@
 //! Distances settled over a list of arcs.
-ghost use Rattle.std.specs.Prelude.{◌≡◌, ◌<◌, ◌≤◌, ◌+◌, ◌*◌, ◌^◌, ℕ, ℤ, true, false, List, Option, [], length, unsigned_abs, All, MatchOption};
+ghost use Rattle.std.specs.Prelude.{◌≡◌, ◌<◌, ◌≤◌, ◌+◌, ◌*◌, ◌^◌, ℕ, ℤ, ◌<ℤ◌, true, false, List, Option, [], length, unsigned_abs, All, MatchOption};
+ghost use Rattle.screen_model.specs.Lists.{total};
 ghost use Rattle.bound_graph.specs.declared.arc.Arc.{Arc};
 ghost use Rattle.neg_cycle.specs.Distances.{IsGreatest, Obeys};
 ghost use Rattle.neg_cycle.specs.Labels.{AreLabels, Fell, HoldsCycle, Lowers};
@@ -22,7 +23,7 @@ pub enum Settled {
 
 /// Lowers the distances in the room, the start values, until they obey every arc that is there.
 ///
-/// Takes no memory.
+/// Where a cycle is found instead, the distances are left as far as they were lowered. Takes no memory.
 pub fn settle<A: ArcList>(arcs: &A, room: &mut Room) -> Settled
     requires nodes { length room.old.distances ≡ A.node_count arcs.now }
     requires starts { All (λ start. unsigned_abs start ≤ 4 * 10 ^ 15) room.old.distances }
@@ -52,7 +53,7 @@ pub fn settle<A: ArcList>(arcs: &A, room: &mut Room) -> Settled
 fn lower<A: ArcList>(arcs: &A, labels: &mut Labels, path: &mut Vec<u32>) -> Option<Stretch>
     requires few { A.node_count arcs.now < 2 ^ 32 }
     requires nodes { length labels.old.distances.items ≡ A.node_count arcs.now }
-    requires labels { AreLabels (A.listed arcs.now) (A.node_count arcs.now) labels.old.distances.items labels.old.parents.items labels.old.ranks.items }
+    requires labels { AreLabels (A.listed arcs.now) (A.node_count arcs.now) labels.old }
     requires path { length path.old.items ≡ A.node_count arcs.now }
     ensures lowers { Lowers (A.listed arcs.now) labels.old.distances.items labels.new.distances.items }
     ensures parents { length labels.new.parents.items ≡ A.node_count arcs.now }
@@ -70,26 +71,26 @@ fn lower<A: ArcList>(arcs: &A, labels: &mut Labels, path: &mut Vec<u32>) -> Opti
     None
 }
 
-// Sweeps in rising and then in falling order. Answers whether each lowered a distance.
+// Sweeps over the arcs in rising and then in falling order. Answers whether each sweep lowered a distance.
 fn sweep_twice<A: ArcList>(arcs: &A, labels: &mut Labels) -> bool
     requires nodes { length labels.old.distances.items ≡ A.node_count arcs.now }
-    requires labels { AreLabels (A.listed arcs.now) (A.node_count arcs.now) labels.old.distances.items labels.old.parents.items labels.old.ranks.items }
-    ensures labels { (bound : ℕ) × AreLabels (A.listed arcs.now) bound labels.new.distances.items labels.new.parents.items labels.new.ranks.items }
+    requires labels { AreLabels (A.listed arcs.now) (A.node_count arcs.now) labels.old }
+    ensures labels { (bound : ℕ) × AreLabels (A.listed arcs.now) bound labels.new }
     ensures lowers { Lowers (A.listed arcs.now) labels.old.distances.items labels.new.distances.items }
-    ensures fell { result ≡ true → Fell true labels.old.distances.items labels.new.distances.items }
+    ensures fell { result ≡ true → total labels.new.distances.items <ℤ total labels.old.distances.items }
     ensures obeys { result ≡ false → Obeys (A.listed arcs.now) labels.new.distances.items }
 {
     let nodes = u64::from(arcs.nodes());
     sweep_up(arcs, nodes, labels) && sweep_down(arcs, nodes + u64::from(arcs.arcs()), labels)
 }
 
-// Relaxes each arc, in rising order of their numbers. Answers whether a distance was lowered. The nodes that are have
-// ranks from `bound` on.
+// Relaxes each arc, in rising order of the numbers. Answers whether a distance was lowered. Each node whose distance
+// was has a rank from `bound` on.
 fn sweep_up<A: ArcList>(arcs: &A, bound: u64, labels: &mut Labels) -> bool
     requires nodes { length labels.old.distances.items ≡ A.node_count arcs.now }
     requires bound { bound < 2 ^ 33 }
-    requires labels { AreLabels (A.listed arcs.now) bound labels.old.distances.items labels.old.parents.items labels.old.ranks.items }
-    ensures labels { AreLabels (A.listed arcs.now) (bound + length (A.listed arcs.now)) labels.new.distances.items labels.new.parents.items labels.new.ranks.items }
+    requires labels { AreLabels (A.listed arcs.now) bound labels.old }
+    ensures labels { AreLabels (A.listed arcs.now) (bound + length (A.listed arcs.now)) labels.new }
     ensures lowers { Lowers (A.listed arcs.now) labels.old.distances.items labels.new.distances.items }
     ensures fell { Fell result labels.old.distances.items labels.new.distances.items }
     ensures obeys { result ≡ false → Obeys (A.listed arcs.now) labels.new.distances.items }
@@ -105,8 +106,8 @@ fn sweep_up<A: ArcList>(arcs: &A, bound: u64, labels: &mut Labels) -> bool
 fn sweep_down<A: ArcList>(arcs: &A, bound: u64, labels: &mut Labels) -> bool
     requires nodes { length labels.old.distances.items ≡ A.node_count arcs.now }
     requires bound { bound < 2 ^ 33 }
-    requires labels { AreLabels (A.listed arcs.now) bound labels.old.distances.items labels.old.parents.items labels.old.ranks.items }
-    ensures labels { AreLabels (A.listed arcs.now) (bound + length (A.listed arcs.now)) labels.new.distances.items labels.new.parents.items labels.new.ranks.items }
+    requires labels { AreLabels (A.listed arcs.now) bound labels.old }
+    ensures labels { AreLabels (A.listed arcs.now) (bound + length (A.listed arcs.now)) labels.new }
     ensures lowers { Lowers (A.listed arcs.now) labels.old.distances.items labels.new.distances.items }
     ensures fell { Fell result labels.old.distances.items labels.new.distances.items }
     ensures obeys { result ≡ false → Obeys (A.listed arcs.now) labels.new.distances.items }

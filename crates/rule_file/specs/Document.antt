@@ -1,6 +1,6 @@
 -- What the table of a rule file is read as: its rules, or the first fault.
 use Rattle.std.specs.Prelude.{◌≡◌, ◌⊎◌, ℕ, ◌+◌, ◌<◌, ◌≤◌, List, [], ◌∷◌, ◌++◌, length, map, Option, Some, None, Result, Ok, Err, codes, option_map}
-use Rattle.toml.specs.Data.{Data, string, integer, float, boolean, datetime, array, table, Items, no_items, item, Members, get_member}
+use Rattle.toml.specs.Data.{Data, array, table, Items, no_items, item, Members, get_member}
 use Rattle.time_text.specs.declared.form.TimeForm.TheVariants.{Sec}
 use Rattle.rule_keys.specs.declared.cause.RuleCause.{RuleCause}
 use Rattle.rule_keys.specs.declared.cause.RuleCause.TheVariants.{UnknownKey, MissingKey, WrongKind, TooMany}
@@ -26,6 +26,10 @@ kind_text Between = codes "between"
 abbrev pub rule_kinds : List TableKind
 rule_kinds = Speed ∷ Swing ∷ Drift ∷ Range ∷ Trust ∷ Weight ∷ Between ∷ []
 
+-- the keys at the top of a file
+abbrev pub table_texts : List (List ℕ)
+table_texts = map kind_text (Format ∷ rule_kinds)
+
 -- a fault of no numbered rule
 abbrev pub of_the_file : RuleCause → RuleFault
 of_the_file cause = record { cause = cause; rule = 0 }
@@ -33,7 +37,7 @@ of_the_file cause = record { cause = cause; rule = 0 }
 -- the tables of an array, each with its kind, and none where a member is no table
 abbrev pub tables_in : TableKind → Items → Option (List (TableKind × Members))
 tables_in kind no_items = Some []
-tables_in kind (item (table members) items) = option_map (λ others. (kind, members) ∷ others) (tables_in kind items)
+tables_in kind (item (table found) items) = option_map (λ others. (kind, found) ∷ others) (tables_in kind items)
 tables_in kind (item _ items) = None
 
 -- the tables of a kind; an absent key has none, and what is no array is wrong
@@ -49,8 +53,8 @@ joined None rest = None
 
 -- the tables of all rules in the order of their numbers
 abbrev pub rule_tables : List TableKind → Members → Option (List (TableKind × Members))
-rule_tables [] members = Some []
-rule_tables (kind ∷ kinds) members = joined (tables_of kind (get_member (kind_text kind) members)) (rule_tables kinds members)
+rule_tables [] file = Some []
+rule_tables (kind ∷ kinds) file = joined (tables_of kind (get_member (kind_text kind) file)) (rule_tables kinds file)
 
 -- The rules one after the other, the first with the number given: what each is read as, or the cause of the
 -- first that is refused, with its number.
@@ -78,17 +82,17 @@ ReadsTables format (Some tables) answer =
 
 -- the format, which speaks of no values and times, and then the rules
 abbrev pub ReadsFormat : Members → Members → Result Rules RuleFault → Type 0
-ReadsFormat members format answer =
+ReadsFormat file format answer =
     ((cause : RuleCause) × Reads (record { decimals = 0; form = Sec }) Format format (Err cause) × (answer ≡ Err (of_the_file cause)))
-    ⊎ ((read : Entries) × Reads (record { decimals = 0; form = Sec }) Format format (Ok read) × ReadsTables read (rule_tables rule_kinds members) answer)
+    ⊎ ((read : Entries) × Reads (record { decimals = 0; form = Sec }) Format format (Ok read) × ReadsTables read (rule_tables rule_kinds file) answer)
 
 abbrev pub ReadsWith : Members → Option Data → Result Rules RuleFault → Type 0
-ReadsWith members None answer = answer ≡ Err (of_the_file MissingKey)
-ReadsWith members (Some (table format)) answer = ReadsFormat members format answer
-ReadsWith members (Some _) answer = answer ≡ Err (of_the_file WrongKind)
+ReadsWith file None answer = answer ≡ Err (of_the_file MissingKey)
+ReadsWith file (Some (table format)) answer = ReadsFormat file format answer
+ReadsWith file (Some _) answer = answer ≡ Err (of_the_file WrongKind)
 
--- what the table of a file is read as
+-- what the table of a file is read as; it has no other keys than those of the tables
 abbrev pub ReadsDocument : Members → Result Rules RuleFault → Type 0
-ReadsDocument members answer =
-    ((¬ HasOnly (map kind_text (Format ∷ rule_kinds)) members) × (answer ≡ Err (of_the_file UnknownKey)))
-    ⊎ (HasOnly (map kind_text (Format ∷ rule_kinds)) members × ReadsWith members (get_member (codes "format") members) answer)
+ReadsDocument file answer =
+    ((¬ HasOnly table_texts file) × (answer ≡ Err (of_the_file UnknownKey)))
+    ⊎ (HasOnly table_texts file × ReadsWith file (get_member (kind_text Format) file) answer)

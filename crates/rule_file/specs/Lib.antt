@@ -1,6 +1,10 @@
 pub mod Count
 pub mod Limits
+pub mod Continues
+pub mod Draft
 pub mod Document
 pub mod Meaning
 pub mod Reading
+pub mod Tables
+pub mod Told
 pub mod Toml

@@ -1,5 +1,5 @@
 -- What the entries of a table mean as a rule.
-use Rattle.std.specs.Prelude.{◌≡◌, ◌≢◌, ℕ, zero, suc, ℤ, pos, Bool, ◌==◌, List, map, filter, Option, Some, unsigned_abs}
+use Rattle.std.specs.Prelude.{◌≡◌, ℕ, zero, suc, pos, ◌==◌, List, map, filter, Some, unsigned_abs}
 use Rattle.std.specs.List.{AllZip}
 use Rattle.fix_point.specs.declared.rate.Rate.{Rate}
 use Rattle.fix_point.specs.declared.scale.Extra.{Extra}

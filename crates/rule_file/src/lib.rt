@@ -2,9 +2,17 @@
 //! none.
 #![tactic(auto)]
 
+mod document;
+mod draft;
+mod each;
 mod fault;
+mod format;
+mod name;
+mod rate;
 mod read;
 mod rules;
+mod tables;
+mod typed;
 
 pub use fault::RuleFault;
 pub use read::{LONGEST, read_rules};

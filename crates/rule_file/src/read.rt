@@ -2,7 +2,8 @@
 ghost use Rattle.std.specs.Prelude.{◌≢◌, IfOk, IfErr};
 ghost use Rattle.rule_file.specs.Reading.{Spells, Refuses};
 
-use crate::fault::RuleFault;
+use crate::document::document_rules;
+use crate::fault::{RuleFault, of_the_file};
 use crate::rules::Rules;
 use rule_keys::RuleCause;
 use std::alloc::Global;
@@ -24,8 +25,12 @@ pub fn read_rules(alloc: Global, bytes: &[u8]) -> Result<Rules, RuleFault>
     ensures accepted { IfOk result (Spells bytes.now) }
     ensures refused { IfErr result (λ fault. fault.cause ≢ RuleCause.Memory → Refuses bytes.now fault) }
 {
-    Err(RuleFault {
-        cause: RuleCause::Memory,
-        rule: 0,
-    })
+    if bytes.len() > LONGEST {
+        return Err(of_the_file(RuleCause::FileTooLong));
+    }
+    match toml::table_from_slice(alloc, bytes) {
+        Ok(file) => document_rules(alloc, &file),
+        Err(fault) if fault.is_memory() => Err(of_the_file(RuleCause::Memory)),
+        Err(_) => Err(of_the_file(RuleCause::Syntax)),
+    }
 }

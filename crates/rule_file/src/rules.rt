@@ -1,6 +1,5 @@
 //! The rules of a rule file. Each type keeps its limits.
 ghost use Rattle.std.specs.Prelude.{◌≢◌, ◌≤◌, pos, ◌≤ℤ◌, All};
-
 ghost use Rattle.rule_file.specs.Limits.{AreRates, IsFormat, IsMoment, IsPeriod, IsSpan, IsUnits, Reaches};
 ghost use Rattle.rule_file.specs.Count.{count_of};
 

@@ -1,5 +1,5 @@
 -- The keys of each table, in the order in which they are looked at, and the checks that follow.
-use Rattle.std.specs.Prelude.{ℕ, ℤ, pos, neg_ℤ, ◌*◌, ◌^◌, List, [], ◌∷◌, ◌++◌}
+use Rattle.std.specs.Prelude.{pos, neg_ℤ, ◌*◌, ◌^◌, List, [], ◌∷◌, ◌++◌}
 use Rattle.rule_keys.specs.declared.key.TableKind.{TableKind}
 use Rattle.rule_keys.specs.declared.key.TableKind.TheVariants as table
 use Rattle.rule_keys.specs.declared.key.KeyName.{KeyName}

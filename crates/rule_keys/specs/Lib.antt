@@ -4,3 +4,5 @@ pub mod Seen
 pub mod Words
 pub mod Values
 pub mod Reading
+pub mod Within
+pub mod Known

@@ -1,5 +1,5 @@
 -- What a table of a rule file is read as: its entries, or the first cause to refuse it.
-use Rattle.std.specs.Prelude.{◌≡◌, ◌≢◌, ◌⊎◌, ℕ, ◌*◌, ◌^◌, ◌≤◌, ℤ, pos, ◌≤ℤ◌, List, [], ◌∷◌, map, Option, Some, None, Result, Ok, Err, unsigned_abs, Contains}
+use Rattle.std.specs.Prelude.{◌≡◌, ◌≢◌, ◌⊎◌, ℕ, ◌*◌, ◌^◌, ◌≤◌, ℤ, ◌≤ℤ◌, List, [], ◌∷◌, map, Option, Some, None, Result, Ok, Err, unsigned_abs, Contains}
 use Rattle.std.specs.List.{AllByRecursion}
 use Rattle.toml.specs.Data.{Data, Members, no_members, member, get_member}
 use Rattle.rule_keys.specs.declared.cause.RuleCause.{RuleCause}
@@ -40,17 +40,17 @@ ReadsFound scale key None answer = ReadsAbsent key.absent answer
 ReadsFound scale key (Some value) answer = ReadsValue scale key.kind value answer
 
 abbrev pub ReadsKey : Scale → Members → Key → Result Meaning RuleCause → Type 0
-ReadsKey scale members key answer = ReadsFound scale key (get_member (key_text key.name) members) answer
+ReadsKey scale given key answer = ReadsFound scale key (get_member (key_text key.name) given) answer
 
 -- The keys one after the other: an entry for each, or the cause at the first that is refused.
 abbrev pub ReadsKeys : Scale → Members → List Key → Result (List (KeyName × Meaning)) RuleCause → Type 0
-ReadsKeys scale members [] answer = answer ≡ Ok []
-ReadsKeys scale members (key ∷ keys) (Ok []) = ⊥
-ReadsKeys scale members (key ∷ keys) (Ok (entry ∷ entries)) =
-    (entry.0 ≡ key.name) × ReadsKey scale members key (Ok entry.1) × ReadsKeys scale members keys (Ok entries)
-ReadsKeys scale members (key ∷ keys) (Err cause) =
-    ReadsKey scale members key (Err cause)
-    ⊎ ((meaning : Meaning) × ReadsKey scale members key (Ok meaning) × ReadsKeys scale members keys (Err cause))
+ReadsKeys scale given [] answer = answer ≡ Ok []
+ReadsKeys scale given (key ∷ keys) (Ok []) = ⊥
+ReadsKeys scale given (key ∷ keys) (Ok (entry ∷ entries)) =
+    (entry.0 ≡ key.name) × ReadsKey scale given key (Ok entry.1) × ReadsKeys scale given keys (Ok entries)
+ReadsKeys scale given (key ∷ keys) (Err cause) =
+    ReadsKey scale given key (Err cause)
+    ⊎ ((meaning : Meaning) × ReadsKey scale given key (Ok meaning) × ReadsKeys scale given keys (Err cause))
 
 -- a rate of so many millionths for each `per` seconds allows at most 4·10^15 units of 10^-d within the window
 abbrev pub Reaches : ℕ → ℤ → ℤ → ℤ → Type 0
@@ -80,7 +80,7 @@ Checked d checks Reads (Err found) =
 
 -- what a table of this kind is read as
 abbrev pub Reads : Scale → TableKind → Members → Result (List (KeyName × Meaning)) RuleCause → Type 0
-Reads scale kind members answer =
-    ((¬ HasOnly (map (λ key. key_text key.name) (keys_of kind)) members) × (answer ≡ Err UnknownKey))
-    ⊎ (HasOnly (map (λ key. key_text key.name) (keys_of kind)) members
-    × Checked scale.decimals (checks_of kind) (ReadsKeys scale members (keys_of kind)) answer)
+Reads scale kind given answer =
+    ((¬ HasOnly (map (λ key. key_text key.name) (keys_of kind)) given) × (answer ≡ Err UnknownKey))
+    ⊎ (HasOnly (map (λ key. key_text key.name) (keys_of kind)) given
+    × Checked scale.decimals (checks_of kind) (ReadsKeys scale given (keys_of kind)) answer)

@@ -1,7 +1,7 @@
 -- What stands at a key, as the number or the name that it means.
-use Rattle.std.specs.Prelude.{◌≡◌, ◌⊎◌, ℕ, zero, suc, ◌*◌, ◌^◌, ◌<◌, ◌≤◌, ℤ, pos, ◌*ℤ◌, ◌≤ℤ◌, ◌<ℤ◌, List, [], ◌∷◌, Result, Ok, Err, unsigned_abs}
+use Rattle.std.specs.Prelude.{◌≡◌, ◌≢◌, ◌⊎◌, ℕ, zero, suc, ◌^◌, ◌<◌, ◌≤◌, ℤ, pos, ◌*ℤ◌, ◌≤ℤ◌, ◌<ℤ◌, List, [], ◌∷◌, Result, Ok, Err, unsigned_abs}
 use Rattle.std.specs.Fmt.{signed_decimal}
-use Rattle.toml.specs.Data.{Data, string, integer, float, boolean, datetime, array, table}
+use Rattle.toml.specs.Data.{Data, string, integer}
 use Rattle.fix_point.specs.Scaled.{IsScaled}
 use Rattle.fix_point.specs.Scaled as Scaled
 use Rattle.fix_point.specs.declared.scale.NumFault.{NumFault}
@@ -10,8 +10,9 @@ use Rattle.time_text.specs.Ticks.{IsTicks}
 use Rattle.time_text.specs.Ticks as Ticks
 use Rattle.time_text.specs.Trimmed.{trimmed}
 use Rattle.time_text.specs.declared.form.TimeForm.{TimeForm}
-use Rattle.time_text.specs.declared.form.TimeForm.TheVariants.{Sec, Milli, Micro, Nano, Instant, Civil}
+use Rattle.time_text.specs.declared.form.TimeForm.TheVariants.{Instant, Civil}
 use Rattle.time_text.specs.declared.form.TimeFault.{TimeFault}
+use Rattle.time_text.specs.declared.form.TimeFault.TheVariants.{Memory}
 use Rattle.rule_keys.specs.declared.cause.RuleCause.{RuleCause}
 use Rattle.rule_keys.specs.declared.cause.RuleCause.TheVariants.{WrongKind, BadNumber, OutOfLimit}
 use Rattle.rule_keys.specs.declared.key.Kind.{Kind}
@@ -31,23 +32,41 @@ abbrev pub AtLeast : ℤ → (Result ℤ RuleCause → Type 0) → Result ℤ Ru
 AtLeast least Reads (Ok z) = Reads (Ok z) × (least ≤ℤ z)
 AtLeast least Reads (Err cause) = Reads (Err cause) ⊎ ((cause ≡ OutOfLimit) × (z : ℤ) × Reads (Ok z) × (z <ℤ least))
 
+-- what a lower limit makes of an answer
+abbrev pub IsAtLeast : ℤ → Result ℤ RuleCause → Result ℤ RuleCause → Type 0
+IsAtLeast least (Err cause) answer = answer ≡ Err cause
+IsAtLeast least (Ok z) answer = Answers (λ w. (w ≡ z) × (least ≤ℤ z)) OutOfLimit (z <ℤ least) answer
+
+-- a number within limits
+abbrev pub ReadsWithin : ℤ → ℤ → ℤ → Result ℤ RuleCause → Type 0
+ReadsWithin least most z answer = Answers (λ w. (w ≡ z) × (least ≤ℤ z) × (z ≤ℤ most)) OutOfLimit ((z <ℤ least) ⊎ (most <ℤ z)) answer
+
 -- a TOML integer within limits
 abbrev pub ReadsWhole : ℤ → ℤ → Data → Result ℤ RuleCause → Type 0
-ReadsWhole least most (integer z) answer = Answers (λ w. (w ≡ z) × (least ≤ℤ z) × (z ≤ℤ most)) OutOfLimit ((z <ℤ least) ⊎ (most <ℤ z)) answer
+ReadsWhole least most (integer z) answer = ReadsWithin least most z answer
 ReadsWhole least most _ answer = answer ≡ Err WrongKind
+
+-- so many wholes in units of 10^-d, at most so many
+abbrev pub ReadsScaledWhole : ℕ → ℕ → ℤ → Result ℤ RuleCause → Type 0
+ReadsScaledWhole d most z answer =
+    Answers (λ w. (w ≡ z *ℤ pos (10 ^ d)) × (unsigned_abs w ≤ most)) BadNumber (most < unsigned_abs (z *ℤ pos (10 ^ d))) answer
+
+-- the units of a number text
+abbrev pub ReadsScaledText : ℕ → ℕ → List ℕ → Result ℤ RuleCause → Type 0
+ReadsScaledText d most text answer =
+    Answers (IsScaled text d Refuse (pos most)) BadNumber ((fault : NumFault) × Scaled.Refuses text d Refuse (pos most) fault) answer
 
 -- The number of units of 10^-d: of a TOML integer, which is that many wholes, or of a number text, which may
 -- have no more decimals. It is at most so great in size.
 abbrev pub ReadsScaled : ℕ → ℕ → Data → Result ℤ RuleCause → Type 0
-ReadsScaled d most (integer z) answer =
-    Answers (λ w. (w ≡ z *ℤ pos (10 ^ d)) × (unsigned_abs w ≤ most)) BadNumber (most < unsigned_abs (z *ℤ pos (10 ^ d))) answer
-ReadsScaled d most (string text) answer =
-    Answers (IsScaled text d Refuse (pos most)) BadNumber ((fault : NumFault) × Scaled.Refuses text d Refuse (pos most) fault) answer
+ReadsScaled d most (integer z) answer = ReadsScaledWhole d most z answer
+ReadsScaled d most (string text) answer = ReadsScaledText d most text answer
 ReadsScaled d most _ answer = answer ≡ Err WrongKind
 
--- The ticks of a time text in the form.
+-- The ticks of a time text in the form. It is refused for what stands there, and never for want of memory.
 abbrev pub ReadsTime : TimeForm → List ℕ → Result ℤ RuleCause → Type 0
-ReadsTime form text answer = Answers (IsTicks form text) BadNumber ((fault : TimeFault) × Ticks.Refuses form text fault) answer
+ReadsTime form text answer =
+    Answers (IsTicks form text) BadNumber ((fault : TimeFault) × (fault ≢ Memory) × Ticks.Refuses form text fault) answer
 
 -- A TOML integer stands for its text where times are numbers.
 abbrev pub ReadsInteger : TimeForm → ℤ → Result ℤ RuleCause → Type 0
@@ -66,9 +85,13 @@ IsWordAt [] word place = ⊥
 IsWordAt (w ∷ others) word zero = word ≡ w
 IsWordAt (w ∷ others) word (suc place) = IsWordAt others word place
 
-abbrev pub ReadsWord : Choice → Data → Result ℤ RuleCause → Type 0
-ReadsWord choice (string word) answer =
+-- the place of a word among those that may be chosen
+abbrev pub ReadsChosen : Choice → List ℕ → Result ℤ RuleCause → Type 0
+ReadsChosen choice word answer =
     Answers (λ z. (place : ℕ) × (z ≡ pos place) × IsWordAt (words choice) word place) OutOfLimit ((place : ℕ) → IsWordAt (words choice) word place → ⊥) answer
+
+abbrev pub ReadsWord : Choice → Data → Result ℤ RuleCause → Type 0
+ReadsWord choice (string word) answer = ReadsChosen choice word answer
 ReadsWord choice _ answer = answer ≡ Err WrongKind
 
 -- the number that stands at a key

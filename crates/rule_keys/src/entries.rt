@@ -1,7 +1,7 @@
 //! What was read from a table.
-ghost use Rattle.std.specs.Prelude.{◌≡◌, map, option_map};
+ghost use Rattle.std.specs.Prelude.{◌≡◌, option_map, map};
+ghost use Rattle.rule_keys.specs.Entries.{is_same_key, meaning_at, number_at, name_at};
 ghost use Rattle.rule_keys.specs.Seen.{meaning, seen};
-ghost use Rattle.rule_keys.specs.Entries.{meaning_at, number_at, name_at};
 
 use crate::key::KeyName;
 use std::marker::Model;
@@ -32,35 +32,42 @@ impl<'a> Model for Entries<'a> {
 }
 
 impl<'a> Entries<'a> {
-    /// The number at a key, and 0 where none is.
+    /// The number at a key, and 0 where none is: units, millionths, seconds, ticks or a place in a list, as
+    /// the key's kind says.
     pub fn number(&self, key: KeyName) -> i64
         ensures { result ≡ number_at key self.now }
     {
         match entry_at(self.found.as_slice(), key) {
             Entry::Number(number) => number,
-            _ => 0,
+            Entry::Name(_) | Entry::NoName => 0,
         }
     }
 
-    /// The name at a key, and none where none is.
+    /// The name at a key, without the blanks at its ends, and none where none is.
     pub fn name(&self, key: KeyName) -> Option<&'a [u8]>
         ensures { option_map (λ text. text.now) result ≡ name_at key self.now }
     {
         match entry_at(self.found.as_slice(), key) {
             Entry::Name(name) => Some(name),
-            _ => None,
+            Entry::Number(_) | Entry::NoName => None,
         }
     }
 }
 
-/// What stands at a key, and no name where nothing does.
+/// What was read at a key, and no name where nothing was.
 fn entry_at<'a>(found: &[(KeyName, Entry<'a>)], key: KeyName) -> Entry<'a>
     ensures { meaning result ≡ meaning_at key (map seen found.now) }
 {
     for (name, entry) in found {
-        if *name == key {
+        if is_same(key, *name) {
             return *entry;
         }
     }
     Entry::NoName
+}
+
+fn is_same(key: KeyName, other: KeyName) -> bool
+    ensures { result ≡ is_same_key key other }
+{
+    key == other
 }

@@ -45,7 +45,7 @@ pub enum KeyName {
 }
 
 /// A list of words of which one is chosen.
-#[derive(Clone, Copy, Debug, PartialEq, Eq)]
+#[derive(Clone, Copy)]
 pub enum Choice {
     /// The forms of time: `s`, `ms`, `us`, `ns`, `instant`, `civil`.
     Form,
@@ -56,7 +56,7 @@ pub enum Choice {
 }
 
 /// What may stand at a key.
-#[derive(Clone, Copy, Debug, PartialEq, Eq)]
+#[derive(Clone, Copy)]
 pub enum Kind {
     /// A TOML integer from `least` to `most`.
     Whole {
@@ -83,7 +83,7 @@ pub enum Kind {
 }
 
 /// What is taken where a key is absent.
-#[derive(Clone, Copy, Debug, PartialEq, Eq)]
+#[derive(Clone, Copy)]
 pub enum Absent {
     /// Nothing: the key must be there.
     Refused,
@@ -94,7 +94,7 @@ pub enum Absent {
 }
 
 /// A key of a table.
-#[derive(Clone, Copy, Debug, PartialEq, Eq)]
+#[derive(Clone, Copy)]
 pub struct Key {
     /// The key.
     pub name: KeyName,
@@ -105,7 +105,7 @@ pub struct Key {
 }
 
 /// What is looked at once all keys of a table are read.
-#[derive(Clone, Copy, Debug, PartialEq, Eq)]
+#[derive(Clone, Copy)]
 pub enum Check {
     /// The number at `low` is not above the one at `high`.
     Order {

@@ -1,2 +1,144 @@
 //! The one description of all tables: the keys of each in the order in which they are looked at, what may
 //! stand there, what is taken where a key is absent, and what is looked at in the end.
+ghost use Rattle.std.specs.Prelude.{◌≡◌};
+ghost use Rattle.rule_keys.specs.Keys.{checks_of, keys_of};
+
+use crate::key::{Absent, Check, Choice, Key, KeyName, Kind, TableKind};
+
+/// The greatest size of a value, in units.
+const MOST_UNITS: i64 = 1_000_000_000_000_000;
+
+/// The greatest size of a time, in ticks.
+const MOST_TICKS: i64 = 9_000_000_000_000_000_000;
+
+/// A key that must be there, or what is taken in its place.
+macro_rules! key {
+    ($name:ident, $kind:expr) => {
+        key!($name, $kind, Absent::Refused)
+    };
+    ($name:ident, $kind:expr, $absent:expr) => {
+        Key {
+            name: KeyName::$name,
+            kind: $kind,
+            absent: $absent,
+        }
+    };
+}
+
+/// The number at `low` is not above the one at `high`.
+macro_rules! order {
+    ($low:ident, $high:ident) => {
+        Check::Order {
+            low: KeyName::$low,
+            high: KeyName::$high,
+        }
+    };
+}
+
+const SENSOR: Key = key!(Sensor, Kind::Name);
+
+const MIN_RATE: Key = key!(Min, Kind::Rate);
+
+const MAX_RATE: Key = key!(Max, Kind::Rate);
+
+const PER: Key = key!(
+    Per,
+    Kind::Whole {
+        least: 1,
+        most: 10_000_000
+    },
+    Absent::Number(1)
+);
+
+const WINDOW: Key = key!(Window, Kind::Span);
+
+const FROM: Key = key!(From, Kind::Moment, Absent::Number(-MOST_TICKS));
+
+const TO: Key = key!(To, Kind::Moment, Absent::Number(MOST_TICKS));
+
+/// The keys of a table, in the order in which they are looked at.
+pub(crate) fn keys_of(kind: TableKind) -> &'static [Key]
+    ensures { result.now ≡ keys_of kind }
+{
+    match kind {
+        TableKind::Format => &[
+            key!(Decimals, Kind::Whole { least: 0, most: 6 }),
+            key!(Time, Kind::Name, Absent::NoName),
+            key!(Form, Kind::Word(Choice::Form), Absent::Number(0)),
+            key!(Separator, Kind::Word(Choice::Separator), Absent::Number(0)),
+            key!(Extra, Kind::Word(Choice::Extra), Absent::Number(0)),
+            key!(
+                Hold,
+                Kind::Whole {
+                    least: 1,
+                    most: 20_000
+                },
+                Absent::Number(4_096)
+            ),
+        ],
+        TableKind::Speed => &[SENSOR, MIN_RATE, MAX_RATE, PER, WINDOW],
+        TableKind::Swing => &[SENSOR, key!(Most, Kind::Amount), WINDOW],
+        TableKind::Drift => &[
+            SENSOR,
+            MIN_RATE,
+            MAX_RATE,
+            PER,
+            key!(Over, Kind::Span),
+            WINDOW,
+        ],
+        TableKind::Range => &[
+            SENSOR,
+            key!(Min, Kind::Value, Absent::Number(-MOST_UNITS)),
+            key!(Max, Kind::Value, Absent::Number(MOST_UNITS)),
+            FROM,
+            TO,
+        ],
+        TableKind::Trust => &[SENSOR, FROM, TO],
+        TableKind::Weight => &[
+            SENSOR,
+            key!(
+                Weight,
+                Kind::Whole {
+                    least: 1,
+                    most: 1_000
+                }
+            ),
+            FROM,
+            TO,
+        ],
+        TableKind::Between => &[
+            key!(First, Kind::Name),
+            key!(Second, Kind::Name),
+            key!(Min, Kind::Value),
+            key!(Max, Kind::Value),
+        ],
+    }
+}
+
+/// What is looked at once the keys of a table are read, in this order.
+pub(crate) fn checks_of(kind: TableKind) -> &'static [Check]
+    ensures { result.now ≡ checks_of kind }
+{
+    match kind {
+        TableKind::Format => &[],
+        TableKind::Speed => &[
+            order!(Min, Max),
+            Check::Reach(KeyName::Min),
+            Check::Reach(KeyName::Max),
+        ],
+        TableKind::Swing => &[],
+        TableKind::Drift => &[
+            order!(Min, Max),
+            order!(Over, Window),
+            Check::Reach(KeyName::Min),
+            Check::Reach(KeyName::Max),
+        ],
+        TableKind::Range => &[order!(Min, Max), order!(From, To)],
+        TableKind::Trust => &[order!(From, To)],
+        TableKind::Weight => &[order!(From, To)],
+        TableKind::Between => &[
+            order!(Min, Max),
+            Check::Differ(KeyName::First, KeyName::Second),
+        ],
+    }
+}

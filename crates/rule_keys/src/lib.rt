@@ -2,10 +2,15 @@
 #![tactic(auto)]
 
 mod cause;
+mod check;
 mod entries;
 mod key;
 mod keys;
 mod read;
+#[cfg(test)]
+mod tests;
+mod value;
+mod words;
 
 pub use cause::RuleCause;
 pub use entries::Entries;

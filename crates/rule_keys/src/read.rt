@@ -1,19 +1,29 @@
 //! A table of a rule file, read by the description of its keys.
-ghost use Rattle.std.specs.Prelude.{◌≡◌, ◌≤◌, IfOk, IfErr};
+ghost use Rattle.std.specs.Prelude.{◌≡◌, ◌≤◌, ◌↔◌, map, length, string_bytes, IsTrue, Contains, IfOk, IfErr};
+ghost use Rattle.std.specs.List.{list_all};
+ghost use Rattle.std.specs.Map.{keys_of as keys_of_map};
+ghost use Rattle.std.specs.Str.{bytes_eq};
 ghost use Rattle.toml.specs.View.{table_view};
 ghost use Rattle.rule_keys.specs.Entries.{Fit};
 ghost use Rattle.rule_keys.specs.Keys.{keys_of};
-ghost use Rattle.rule_keys.specs.Reading.{Reads, Told};
+ghost use Rattle.rule_keys.specs.Known.{is_known};
+ghost use Rattle.rule_keys.specs.Reading.{HasOnly, Reads, ReadsAbsent, ReadsKey, ReadsKeys, Told};
+ghost use Rattle.rule_keys.specs.Seen.{meant, seen_all};
+ghost use Rattle.rule_keys.specs.Words.{key_text};
 
 use crate::cause::RuleCause;
-use crate::entries::Entries;
-use crate::key::TableKind;
+use crate::check::check_all;
+use crate::entries::{Entries, Entry};
+use crate::key::{Absent, Key, KeyName, TableKind};
+use crate::keys::{checks_of, keys_of};
+use crate::value::read_value;
+use crate::words::key_text;
 use std::alloc::Global;
 use time_text::TimeForm;
 use toml::Table;
 
 /// What the numbers and times in the rules are counted in.
-#[derive(Clone, Copy, Debug, PartialEq, Eq)]
+#[derive(Clone, Copy)]
 pub struct Scale {
     /// The decimals of a value: a unit is 10^-decimals.
     pub decimals: u32,
@@ -23,9 +33,16 @@ pub struct Scale {
 
 /// Reads a table of this kind, or answers the first cause to refuse it.
 ///
-/// Causes are looked for in this order: a key that the kind does not have; then key by key whether it is
-/// absent and must be there, of the wrong kind, no number or time in range, or beyond its limits; then the
-/// checks that the kind has, in their order.
+/// The keys of each kind, what may stand at them and what is taken where they are absent are those of
+/// `keys_of` in `specs/Keys.antt`. A table of `TableKind::Format` is read the same under any scale. The
+/// entries take memory for one entry a key, at most six, and lend their names from the table.
+///
+/// # Errors
+///
+/// The first cause in this order: `UnknownKey` for a key that the kind does not have; then key by key
+/// `MissingKey`, `WrongKind`, `BadNumber`, `OutOfLimit`; then `Order`, `ReachTooLarge` and `SameSensor` for
+/// the checks that the kind has. `Memory` where memory ran out, which is looked for only once no key is
+/// unknown.
 pub fn read_table<'a>(
     alloc: Global,
     scale: Scale,
@@ -36,5 +53,82 @@ pub fn read_table<'a>(
     ensures answer { Told (Reads scale kind (table_view table.now)) result }
     ensures fit { IfOk result (Fit (keys_of kind)) }
 {
-    Err(RuleCause::Memory)
+    let keys = keys_of(kind);
+    if !has_only(keys, table) {
+        return Err(RuleCause::UnknownKey);
+    }
+    let found = read_keys(alloc, scale, keys, table)?;
+    let entries = Entries { found };
+    match check_all(scale.decimals, &entries, checks_of(kind)) {
+        Some(cause) => Err(cause),
+        None => Ok(entries),
+    }
+}
+
+/// Whether each key of the table is one of these.
+fn has_only(keys: &[Key], table: &Table) -> bool
+    ensures { result ≡ list_all (λ text. is_known keys.now (string_bytes text)) (keys_of_map table.now.entries) }
+{
+    table.keys().all(|text| has_key(keys, text.as_str()))
+}
+
+fn has_key(keys: &[Key], text: &str) -> bool
+    ensures { result ≡ is_known keys.now text.now }
+{
+    keys.iter().any(|key| is_key(*key, text))
+}
+
+fn is_key(key: Key, text: &str) -> bool
+    ensures { result ≡ bytes_eq (key_text key.name) text.now }
+{
+    key_text(key.name) == text
+}
+
+/// Reads the keys of a table one after the other.
+fn read_keys<'a>(
+    alloc: Global,
+    scale: Scale,
+    keys: &[Key],
+    table: &'a Table,
+) -> Result<Vec<(KeyName, Entry<'a>)>, RuleCause>
+    requires { scale.decimals ≤ 6 }
+    ensures { Told (ReadsKeys scale (table_view table.now) keys.now) (seen_all result) }
+{
+    let Ok(mut found) = Vec::with_capacity(alloc, keys.len()) else {
+        return Err(RuleCause::Memory);
+    };
+    for key in keys {
+        let entry = read_key(alloc, scale, *key, table)?;
+        let Ok(()) = found.push((key.name, entry)) else {
+            return Err(RuleCause::Memory);
+        };
+    }
+    Ok(found)
+}
+
+/// What stands at a key, or is taken in its place.
+fn read_key<'a>(
+    alloc: Global,
+    scale: Scale,
+    key: Key,
+    table: &'a Table,
+) -> Result<Entry<'a>, RuleCause>
+    requires { scale.decimals ≤ 6 }
+    ensures { ReadsKey scale (table_view table.now) key (meant result) }
+{
+    match table.get(key_text(key.name)) {
+        Some(value) => read_value(alloc, scale, key.kind, value),
+        None => absent_entry(key.absent),
+    }
+}
+
+/// What is taken where a key is absent.
+fn absent_entry<'a>(absent: Absent) -> Result<Entry<'a>, RuleCause>
+    ensures { ReadsAbsent absent (meant result) }
+{
+    match absent {
+        Absent::Refused => Err(RuleCause::MissingKey),
+        Absent::Number(number) => Ok(Entry::Number(number)),
+        Absent::NoName => Ok(Entry::NoName),
+    }
 }

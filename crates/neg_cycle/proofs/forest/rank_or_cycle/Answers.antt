@@ -1,6 +1,6 @@
-use Rattle.std.proofs.Common.{ℕ, List, length, take, subst, ◌∙◌, sym, arith}
-use Rattle.neg_cycle.proofs.Turned.{IsTurned}
-use Rattle.neg_cycle.proofs.Ranking.{next_done, ranking}
+use Rattle.std.proofs.Common.{ℕ, List, length, take, subst, arith}
+use Rattle.neg_cycle.proofs.ForestTurn.{IsTurned}
+use Rattle.neg_cycle.proofs.ForestRanking.{next_done, ranking}
 use Rattle.neg_cycle.proofs.forest.rank_or_cycle.Goals as goal
 
 pub loop-node-preserved : goal.loop-node-preserved

@@ -1,4 +1,4 @@
-use Rattle.neg_cycle.proofs.Ranking.{AreDone}
+use Rattle.neg_cycle.proofs.ForestRanking.{AreDone}
 use Rattle.neg_cycle.proofs.forest.rank_or_cycle.Given as goal
 
 abbrev pub invariant-loop-node : goal.invariant-loop-node

@@ -1,5 +1,5 @@
 use Rattle.std.proofs.Common.{◌≡◌, ◌+◌, length}
-use Rattle.neg_cycle.proofs.Turned.{IsTurned}
+use Rattle.neg_cycle.proofs.ForestTurn.{IsTurned}
 use Rattle.neg_cycle.proofs.forest.rank_walk.Given as goal
 
 abbrev pub invariant-loop-node : goal.invariant-loop-node

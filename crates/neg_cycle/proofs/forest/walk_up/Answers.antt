@@ -1,7 +1,7 @@
-use Rattle.std.proofs.Common.{◌≡◌, ◌≢◌, sym, ◌∙◌}
+use Rattle.std.proofs.Common.{◌≢◌, sym, ◌∙◌}
 use Rattle.neg_cycle.specs.declared.forest.TheConstants.{UNRANKED}
-use Rattle.neg_cycle.specs.Walk.{rank_at}
-use Rattle.neg_cycle.proofs.Walking.{parent_in, read, mark, go_on, root, met_again}
+use Rattle.neg_cycle.specs.ForestWalk.{rank_at}
+use Rattle.neg_cycle.proofs.ForestWalk.{parent_in, read, mark, go_on, root, met_again}
 use Rattle.neg_cycle.proofs.forest.walk_up.Goals as goal
 
 pub loop-path-preserved : goal.loop-path-preserved

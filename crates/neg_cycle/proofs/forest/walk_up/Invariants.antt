@@ -1,5 +1,5 @@
-use Rattle.std.proofs.Common.{◌≡◌, ◌-◌, ◌≤◌, ◌<◌, length}
-use Rattle.neg_cycle.proofs.Walking.{IsUnderWay}
+use Rattle.std.proofs.Common.{◌-◌, length}
+use Rattle.neg_cycle.proofs.ForestWalk.{IsUnderWay}
 use Rattle.neg_cycle.proofs.forest.walk_up.Given as goal
 
 abbrev pub invariant-loop-path : goal.invariant-loop-path

@@ -3,7 +3,7 @@ use Rattle.std.specs.List.{All}
 use Rattle.std.specs.Option.{IfSome}
 use Rattle.neg_cycle.specs.declared.forest.Parent.{Parent}
 use Rattle.neg_cycle.specs.Forest.{IsParentCycle, IsRanking}
-use Rattle.neg_cycle.specs.Labels.{AreLabels}
+use Rattle.neg_cycle.specs.Labels.{IsLabelling}
 use Rattle.neg_cycle.proofs.Cycles.{holds_cycle}
 use Rattle.neg_cycle.proofs.Relaxing.{lowers_trans}
 use Rattle.neg_cycle.proofs.Ranked.{ranked, tails_within, height_falls}
@@ -17,6 +17,10 @@ rank_or_cycle-requires-clause-tails g c =
 
 pub returns-in-Some-clause-lowers : goal.returns-in-Some-clause-lowers
 returns-in-Some-clause-lowers g c =
+    lowers_trans (g.A.ArcList.listed c.args.arcs.now) c.args.labels.now.distances.items c.turns.labels.distances.items c.sweep_twice.new.labels.distances.items c.turns.invariant.lowers c.sweep_twice.ensures.lowers
+
+pub returns-clause-lowers : goal.returns-clause-lowers
+returns-clause-lowers g c =
     lowers_trans (g.A.ArcList.listed c.args.arcs.now) c.args.labels.now.distances.items c.turns.labels.distances.items c.sweep_twice.new.labels.distances.items c.turns.invariant.lowers c.sweep_twice.ensures.lowers
 
 pub returns-in-Some-clause-answer : goal.returns-in-Some-clause-answer
@@ -50,7 +54,7 @@ turns-preserved g c =
     let nodes = swept.lowers.below.nodes ∙ c.turns.invariant.nodes in
     record {
       nodes = nodes;
-      labels = subst (λ bound. AreLabels arcs bound labels.distances.items labels.parents.items ranks) nodes fresh;
+      labels = subst (λ bound. IsLabelling arcs bound labels.distances.items labels.parents.items ranks) nodes fresh;
       lowers = lowers_trans arcs c.args.labels.now.distances.items c.turns.labels.distances.items labels.distances.items c.turns.invariant.lowers swept.lowers;
       path = c.rank_or_cycle.ensures.path ∙ ap (λ (l : List (Option Parent)). length l) c.deref.ensures.value ∙ swept.labels.1.parents_of ∙ nodes;
     }

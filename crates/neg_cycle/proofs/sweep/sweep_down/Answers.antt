@@ -1,6 +1,6 @@
 use Rattle.std.proofs.Common.{◌≡◌, ◌≤◌, ◌+◌, ◌-◌, ◌⊎◌, ℕ, ◌∙◌, subst, arith}
 use Rattle.std.proofs.lemmas.Bool.{cases_lt}
-use Rattle.neg_cycle.specs.Labels.{AreLabels}
+use Rattle.neg_cycle.specs.Labels.{IsLabelling}
 use Rattle.neg_cycle.proofs.Relaxing.{lowers_trans}
 use Rattle.neg_cycle.proofs.Sweeping.{fell_more, kept_more}
 use Rattle.neg_cycle.proofs.sweep.sweep_down.Goals as goal
@@ -20,7 +20,7 @@ loop-i-preserved g c =
     let bound : (c.args.bound + c.from.result) + 1 ≡ c.args.bound + (c.arcs-count.result - (c.loop-i.i - 1)) = omega arith in
     record {
       nodes = tried.lowers.below.nodes ∙ was.nodes;
-      labels = subst (λ ranks. AreLabels arcs ranks c.relax-fell.new.labels.distances.items c.relax-fell.new.labels.parents.items c.relax-fell.new.labels.ranks.items) bound tried.labels;
+      labels = subst (λ ranks. IsLabelling arcs ranks c.relax-fell.new.labels.distances.items c.relax-fell.new.labels.parents.items c.relax-fell.new.labels.ranks.items) bound tried.labels;
       lowers = lowers_trans arcs old middle new was.lowers tried.lowers;
       fell = fell_more c.loop-i.fell c.relax-fell.result old middle new was.fell tried.fell;
       kept = kept_more arcs c.loop-i.fell c.relax-fell.result middle new (c.loop-i.i - 1) (λ j. c.loop-i.i ≤ j) (λ j. c.loop-i.i - 1 ≤ j) (above_or_at c.loop-i.i) tried.fell was.kept tried.kept;

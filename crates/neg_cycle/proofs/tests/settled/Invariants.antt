@@ -5,5 +5,5 @@ use Rattle.neg_cycle.proofs.tests.settled.Given as goal
 abbrev pub invariant-loop-node : goal.invariant-loop-node
 invariant-loop-node l = record {
   nodes : length l.room.distances ≡ l.table.nodes;
-  small : All (λ start. unsigned_abs start ≤ 4 * 10 ^ 15) l.room.distances
+  small : All (λ start. unsigned_abs start ≤ 4 * 10 ^ 15) l.room.distances;
 }

@@ -1,8 +1,8 @@
 use Rattle.std.proofs.Common.{◌≡◌, map, drop}
-use Rattle.rule_keys.specs.Seen.{meaning, seen}
 use Rattle.rule_keys.specs.Entries.{meaning_at}
+use Rattle.rule_keys.specs.Seen.{seen}
 use Rattle.rule_keys.proofs.entries.entry_at.Given as goal
 
--- what is left has what the whole has
 abbrev pub invariant-loop-name : goal.invariant-loop-name
-invariant-loop-name l = meaning_at l.key (map seen (drop l.name-index l.found)) ≡ meaning_at l.key (map seen l.fn.found)
+invariant-loop-name l =
+    meaning_at l.key (map seen l.found) ≡ meaning_at l.key (map seen (drop l.name-index l.found))

@@ -7,5 +7,5 @@ use Rattle.neg_cycle.proofs.tests.Table.of.Given as goal
 abbrev pub invariant-loop-row : goal.invariant-loop-row
 invariant-loop-row l = record {
   count : length l.arcs.items ≡ l.row-index;
-  valid : All (λ arc. IfSome arc (IsArc l.nodes)) l.arcs.items
+  valid : All (λ arc. IfSome arc (IsArc l.nodes)) l.arcs.items;
 }

@@ -1,17 +1,15 @@
 -- A walk under way, at the front of a path.
 use Rattle.std.proofs.Common.{◌≡◌, ◌≢◌, ℕ, ◌+◌, ◌-◌, ◌^◌, ◌<◌, ◌≤◌, List, [], ◌∷◌, ◌++◌, length, get_or, set, take, drop, Option, None, Some, IfSome, All, refl, sym, subst, ap, ◌∙◌, ⊎_elim, arith}
-use Rattle.std.proofs.lemmas.Grind.{common_steps}
 use Rattle.std.proofs.lemmas.Bool.{cases_eq}
 use Rattle.std.proofs.lemmas.List.{get_or_read, length-set, length-take-le, get_or-set_same, take_more_set, get_or_push, length_push, drop-take}
 use Rattle.neg_cycle.specs.declared.forest.Parent.{Parent}
-use Rattle.neg_cycle.specs.declared.forest.Stretch.{Stretch}
 use Rattle.neg_cycle.specs.declared.forest.Walk.TheVariants.{Ended, Cycle}
 use Rattle.neg_cycle.specs.declared.forest.TheConstants.{UNRANKED}
 use Rattle.neg_cycle.specs.Forest.{IsParentCycle, parent_at}
-use Rattle.neg_cycle.specs.Walk.{rank_at, tail_at, unranked, IsWalk, StayRanked, Tells}
-use Rattle.neg_cycle.proofs.Unranked.{some_unranked}
-use Rattle.neg_cycle.proofs.ParentCycles.{cycle}
-use Rattle.neg_cycle.proofs.Marked.{GoesOn, other_ranks, marked, closed}
+use Rattle.neg_cycle.specs.ForestWalk.{rank_at, tail_at, IsWalk, StayRanked, Tells}
+use Rattle.neg_cycle.proofs.ForestCount.{some_unranked}
+use Rattle.neg_cycle.proofs.ForestCycle.{cycle}
+use Rattle.neg_cycle.proofs.ForestMark.{GoesOn, other_ranks, marked, closed}
 
 -- The parent that a node has leaves a node.
 pub parent_in : (parents : List (Option Parent)) (node : ℕ) (parent : Parent) → All (λ parent. IfSome parent (λ p. p.tail < length parents)) parents →

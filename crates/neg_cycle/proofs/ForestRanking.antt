@@ -1,8 +1,7 @@
 -- From walks to a ranking.
-use Rattle.std.proofs.Common.{◌≡◌, ◌≢◌, ℕ, ◌+◌, ◌-◌, ◌^◌, ◌<◌, ◌≤◌, List, [], ◌∷◌, length, get_or, take, replicate, Option, None, Some, IfSome, All, refl, sym, subst, ap, ◌∙◌, inl, inr, ◌⊎◌, ⊎_elim, arith}
+use Rattle.std.proofs.Common.{◌≡◌, ◌≢◌, ℕ, ◌+◌, ◌-◌, ◌^◌, ◌<◌, List, [], length, get_or, take, replicate, Option, None, Some, IfSome, sym, subst, ap, ◌∙◌, inl, inr, ◌⊎◌, ⊎_elim, arith}
 use Rattle.std.specs.Option.{option_map}
-use Rattle.std.proofs.lemmas.Grind.{common_steps}
-use Rattle.std.proofs.lemmas.Bool.{cases_lt, cases_eq}
+use Rattle.std.proofs.lemmas.Bool.{cases_lt}
 use Rattle.std.proofs.lemmas.Option.{IfSome_then}
 use Rattle.std.proofs.lemmas.List.{length-take-le, length-replicate, get_or-replicate, get_or_past}
 use Rattle.std.proofs.lemmas.List.Elements.{All-from_get_or}
@@ -10,9 +9,9 @@ use Rattle.neg_cycle.specs.declared.forest.Parent.{Parent}
 use Rattle.neg_cycle.specs.declared.forest.Walk.TheVariants.{Ended}
 use Rattle.neg_cycle.specs.declared.forest.TheConstants.{UNRANKED}
 use Rattle.neg_cycle.specs.Forest.{parent_at, IsRanking}
-use Rattle.neg_cycle.specs.Walk.{rank_at, tail_at, unranked, IsWalk, IsAtEnd, StayRanked, Tells}
-use Rattle.neg_cycle.proofs.Turned.{IsTurned}
-use Rattle.neg_cycle.proofs.Unranked.{all_unranked}
+use Rattle.neg_cycle.specs.ForestWalk.{rank_at, tail_at, unranked, IsWalk, IsAtEnd, StayRanked, Tells}
+use Rattle.neg_cycle.proofs.ForestTurn.{IsTurned}
+use Rattle.neg_cycle.proofs.ForestCount.{all_unranked}
 
 -- Before the first walk no node has a rank.
 pub none_ranked : (parents : List (Option Parent)) (ranks : List ℕ) → ranks ≡ replicate (length parents) UNRANKED → IsWalk parents 0 [] ranks

@@ -1,14 +1,14 @@
 -- A walk that goes on to a node that has no rank.
-use Rattle.std.proofs.Common.{◌≡◌, ◌≢◌, ℕ, ◌+◌, ◌-◌, ◌^◌, ◌<◌, ◌≤◌, List, [], ◌∷◌, ◌++◌, length, get_or, set, take, drop, Option, None, Some, IfSome, refl, sym, ap, ◌∙◌, ⊎_elim, arith}
+use Rattle.std.proofs.Common.{◌≡◌, ◌≢◌, ℕ, ◌+◌, ◌-◌, ◌^◌, ◌<◌, ◌≤◌, List, [], ◌∷◌, ◌++◌, length, get_or, set, drop, Option, Some, IfSome, refl, sym, ap, ◌∙◌, ⊎_elim, arith}
 use Rattle.std.proofs.lemmas.Grind.{common_steps}
 use Rattle.std.proofs.lemmas.Bool.{cases_eq}
 use Rattle.std.proofs.lemmas.Option.{IfSome_then}
 use Rattle.std.proofs.lemmas.List.{length-set, get_or-set_same, get_or-set_other, get_or_append_left, get_or_push, length_push, length-drop, get_or-drop}
 use Rattle.neg_cycle.specs.declared.forest.Parent.{Parent}
 use Rattle.neg_cycle.specs.declared.forest.TheConstants.{UNRANKED}
-use Rattle.neg_cycle.specs.Walk.{rank_at, tail_at, unranked, IsWalk}
-use Rattle.neg_cycle.proofs.Unranked.{unranked_less}
-use Rattle.neg_cycle.proofs.ParentCycles.{IsClosed}
+use Rattle.neg_cycle.specs.ForestWalk.{rank_at, tail_at, IsWalk}
+use Rattle.neg_cycle.proofs.ForestCount.{unranked_less}
+use Rattle.neg_cycle.proofs.ForestCycle.{IsClosed}
 
 -- A walk, and the node to which it goes on.
 pub record GoesOn (parents : List (Option Parent)) (done : ℕ) (walk ranks : List ℕ) (node : ℕ) : Type 0 where

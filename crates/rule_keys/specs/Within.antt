@@ -1,0 +1,16 @@
+-- The sizes within which the reach of a rate can be reckoned.
+use Rattle.std.specs.Prelude.{◌^◌, ◌≤◌, List, unsigned_abs}
+use Rattle.rule_keys.specs.declared.key.KeyName.{KeyName}
+use Rattle.rule_keys.specs.declared.key.KeyName.TheVariants.{Per, Window}
+use Rattle.rule_keys.specs.declared.key.Check.{Check}
+use Rattle.rule_keys.specs.declared.key.Check.TheVariants.{Order, Reach, Differ}
+use Rattle.rule_keys.specs.Entries.{Meaning, number_at}
+
+-- what has to be so small for a check
+abbrev pub IsWithinReach : List (KeyName × Meaning) → Check → Type 0
+IsWithinReach entries (Order _ _) = Unit {0}
+IsWithinReach entries (Reach rate) =
+    (unsigned_abs (number_at rate entries) ≤ 10 ^ 15)
+    × (unsigned_abs (number_at Per entries) ≤ 10 ^ 7)
+    × (unsigned_abs (number_at Window entries) ≤ 10 ^ 17)
+IsWithinReach entries (Differ _ _) = Unit {0}

@@ -1,0 +1,185 @@
+//! What stands at a key, read as a value of each kind.
+ghost use Rattle.std.specs.Prelude.{◌≡◌, ◌*◌, ◌^◌, ◌≤◌};
+ghost use Rattle.toml.specs.View.{view};
+ghost use Rattle.rule_keys.specs.Seen.{meant, meant_number};
+ghost use Rattle.rule_keys.specs.Values.{IsAtLeast, ReadsChosen, ReadsInteger, ReadsMoment, ReadsName, ReadsScaled, ReadsScaledText, ReadsScaledWhole, ReadsTime, ReadsValue, ReadsWhole, ReadsWithin, ReadsWord};
+
+use crate::cause::RuleCause;
+use crate::entries::Entry;
+use crate::key::{Choice, Kind};
+use crate::read::Scale;
+use crate::words::place_of;
+use fix_point::Extra;
+use itoa::Buffer;
+use std::alloc::Global;
+use time_text::{TimeForm, ticks, trimmed_text};
+use toml::Value;
+
+/// The greatest size of a value in units, and of a rate in millionths.
+const MOST_UNITS: u64 = 1_000_000_000_000_000;
+
+/// The longest span in ticks.
+const MOST_SPAN: u64 = 100_000_000_000_000_000;
+
+/// The decimals of a rate.
+const RATE_DECIMALS: u32 = 6;
+
+/// The decimals of a span in seconds.
+const TICK_DECIMALS: u32 = 9;
+
+/// What stands at a key of this kind.
+pub(crate) fn read_value<'a>(
+    alloc: Global,
+    scale: Scale,
+    kind: Kind,
+    value: &'a Value,
+) -> Result<Entry<'a>, RuleCause>
+    requires { scale.decimals ≤ 6 }
+    ensures { ReadsValue scale kind (view value.now) (meant result) }
+{
+    match kind {
+        Kind::Whole { least, most } => numbered(whole(least, most, value)),
+        Kind::Value => numbered(scaled(scale.decimals, MOST_UNITS, value)),
+        Kind::Amount => numbered(at_least(0, scaled(scale.decimals, MOST_UNITS, value))),
+        Kind::Rate => numbered(scaled(RATE_DECIMALS, MOST_UNITS, value)),
+        Kind::Span => numbered(at_least(1, scaled(TICK_DECIMALS, MOST_SPAN, value))),
+        Kind::Moment => numbered(moment(alloc, scale.form, value)),
+        Kind::Name => name(value),
+        Kind::Word(choice) => numbered(word(choice, value)),
+    }
+}
+
+fn numbered<'a>(number: Result<i64, RuleCause>) -> Result<Entry<'a>, RuleCause>
+    ensures { meant result ≡ meant_number number }
+{
+    match number {
+        Ok(number) => Ok(Entry::Number(number)),
+        Err(cause) => Err(cause),
+    }
+}
+
+/// A TOML integer within limits.
+fn whole(least: i64, most: i64, value: &Value) -> Result<i64, RuleCause>
+    ensures { ReadsWhole least most (view value.now) result }
+{
+    match value {
+        Value::Integer(number) => within(least, most, *number),
+        _ => Err(RuleCause::WrongKind),
+    }
+}
+
+fn within(least: i64, most: i64, number: i64) -> Result<i64, RuleCause>
+    ensures { ReadsWithin least most number result }
+{
+    if least <= number && number <= most {
+        Ok(number)
+    } else {
+        Err(RuleCause::OutOfLimit)
+    }
+}
+
+/// The number, unless it is less than the least.
+fn at_least(least: i64, number: Result<i64, RuleCause>) -> Result<i64, RuleCause>
+    ensures { IsAtLeast least number result }
+{
+    match number {
+        Ok(number) if number < least => Err(RuleCause::OutOfLimit),
+        _ => number,
+    }
+}
+
+/// Units of 10^-d: of a TOML integer, which is that many wholes, or of a number text.
+fn scaled(d: u32, most: u64, value: &Value) -> Result<i64, RuleCause>
+    requires decimals { d ≤ 9 }
+    requires most { most ≤ 9 * 10 ^ 18 }
+    ensures { ReadsScaled d most (view value.now) result }
+{
+    match value {
+        Value::Integer(wholes) => scaled_whole(d, most, *wholes),
+        Value::String(text) => scaled_text(d, most, text.as_bytes()),
+        _ => Err(RuleCause::WrongKind),
+    }
+}
+
+fn scaled_whole(d: u32, most: u64, wholes: i64) -> Result<i64, RuleCause>
+    requires decimals { d ≤ 9 }
+    requires most { most ≤ 9 * 10 ^ 18 }
+    ensures { ReadsScaledWhole d most wholes result }
+{
+    match wholes.checked_mul(10_i64.pow(d)) {
+        Some(units) if units.unsigned_abs() <= most => Ok(units),
+        _ => Err(RuleCause::BadNumber),
+    }
+}
+
+fn scaled_text(d: u32, most: u64, text: &[u8]) -> Result<i64, RuleCause>
+    requires decimals { d ≤ 9 }
+    requires most { most ≤ 9 * 10 ^ 18 }
+    ensures { ReadsScaledText d most text.now result }
+{
+    match fix_point::scaled(text, d, Extra::Refuse, most as i64) {
+        Ok(units) => Ok(units),
+        Err(_) => Err(RuleCause::BadNumber),
+    }
+}
+
+/// The ticks of a time text, or of a TOML integer where times are numbers.
+fn moment(alloc: Global, form: TimeForm, value: &Value) -> Result<i64, RuleCause>
+    ensures { ReadsMoment form (view value.now) result }
+{
+    match value {
+        Value::String(text) => time(alloc, form, text.as_bytes()),
+        Value::Integer(number) => numeric_time(alloc, form, *number),
+        _ => Err(RuleCause::WrongKind),
+    }
+}
+
+fn numeric_time(alloc: Global, form: TimeForm, number: i64) -> Result<i64, RuleCause>
+    ensures { ReadsInteger form number result }
+{
+    match form {
+        TimeForm::Instant | TimeForm::Civil => Err(RuleCause::WrongKind),
+        TimeForm::Sec | TimeForm::Milli | TimeForm::Micro | TimeForm::Nano => {
+            let mut digits = Buffer::new();
+            time(alloc, form, digits.format(number).as_bytes())
+        }
+    }
+}
+
+fn time(alloc: Global, form: TimeForm, text: &[u8]) -> Result<i64, RuleCause>
+    ensures { ReadsTime form text.now result }
+{
+    match ticks(alloc, form, text) {
+        Ok(ticks) => Ok(ticks),
+        Err(_) => Err(RuleCause::BadNumber),
+    }
+}
+
+/// The place of a word in its list.
+fn word(choice: Choice, value: &Value) -> Result<i64, RuleCause>
+    ensures { ReadsWord choice (view value.now) result }
+{
+    match value {
+        Value::String(word) => chosen(choice, word.as_str()),
+        _ => Err(RuleCause::WrongKind),
+    }
+}
+
+fn chosen(choice: Choice, word: &str) -> Result<i64, RuleCause>
+    ensures { ReadsChosen choice word.now result }
+{
+    match place_of(choice, word) {
+        Some(place) => Ok(place as i64),
+        None => Err(RuleCause::OutOfLimit),
+    }
+}
+
+/// A string without the blanks at its ends.
+fn name(value: &Value) -> Result<Entry<'_>, RuleCause>
+    ensures { ReadsName (view value.now) (meant result) }
+{
+    match value {
+        Value::String(text) => Ok(Entry::Name(trimmed_text(text.as_bytes()))),
+        _ => Err(RuleCause::WrongKind),
+    }
+}
