@@ -16,7 +16,7 @@ all: $(BINARY)
 # Only what is proved is built. The build runs the program without words: it prints its usage and exits with 2.
 $(BINARY): $(SOURCES)
 	@command -v rt > /dev/null || { echo 'The command rt of the Rattle toolchain is not on the path.'; exit 1; }
-	@echo 'Building screen. The first build proves every part of it, which takes about ten minutes on four processors.'
+	@echo 'Building screen. The first build proves every part of it, which takes some fifteen minutes on four processors.'
 	@mkdir -p $(dir $(BINARY)) && rm -f $(BINARY)
 	@(cd crates/screen && rt run) > $(BUILD_LOG) 2>&1; test -x $(BINARY) || \
 		{ tail -n 20 $(BUILD_LOG); echo 'The build failed. All that it printed is in $(BUILD_LOG).'; exit 1; }

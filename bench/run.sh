@@ -14,8 +14,9 @@ twin=$what
 
 mkdir -p bench/out
 rustc -O -o "bench/out/$twin" "bench/twins/$twin.rs"
-(cd crates/measure && rt run) > bench/out/build.log 2>&1 || true
 proved=crates/measure/out/measure
+rm -f "$proved"
+(cd crates/measure && rt run) > bench/out/build.log 2>&1 || true
 test -x "$proved" || { tail -n 20 bench/out/build.log; exit 1; }
 
 best_plain= best_proved=

@@ -1,6 +1,7 @@
-//! The plain twin of `neg_cycle::settle`: the same sweeps over the same arcs, with no proof. It settles a chain
-//! of 400,000 nodes and prints the picoseconds for each arc and the sum of the distances; with the word
-//! `blocked` the chain has a cycle of a negative sum at its end, and the second number is its length.
+//! The plain twin of `neg_cycle::settle`: the same sweeps over the same arcs and walks after the same sweeps, with
+//! no proof, and without the ranks that the proof needs. It settles a chain of 400,000 nodes and prints the
+//! picoseconds for each arc and the sum of the distances; with the word `blocked` the chain has a cycle of a
+//! negative sum at its end, and the second number is its length.
 
 use std::time::Instant;
 
@@ -15,6 +16,7 @@ struct Arc {
 
 #[derive(Clone, Copy)]
 struct Parent {
+    arc: u32,
     tail: u32,
 }
 
@@ -47,23 +49,26 @@ fn chain(blocked: bool) -> Vec<Arc> {
 }
 
 struct Room {
-    distances: Vec<i64>,
+    distances: Vec<i128>,
     parents: Vec<Option<Parent>>,
     marks: Vec<u32>,
 }
 
-fn relax(arc: Arc, room: &mut Room) -> bool {
-    let sum = room.distances[arc.tail as usize] + arc.cost;
+fn relax(number: usize, arc: Arc, room: &mut Room) -> bool {
+    let sum = room.distances[arc.tail as usize] + i128::from(arc.cost);
     let falls = sum < room.distances[arc.head as usize];
     if falls {
         room.distances[arc.head as usize] = sum;
-        room.parents[arc.head as usize] = Some(Parent { tail: arc.tail });
+        room.parents[arc.head as usize] = Some(Parent {
+            arc: number as u32,
+            tail: arc.tail,
+        });
     }
     falls
 }
 
-/// The number of nodes of a cycle of parents, if there is one.
-fn cycle_of(room: &mut Room) -> Option<u32> {
+/// The arcs of a cycle of parents, if there is one.
+fn cycle_of(room: &mut Room) -> Option<Vec<u32>> {
     room.marks.fill(u32::MAX);
     for first in 0..NODES {
         let mut node = first;
@@ -75,13 +80,17 @@ fn cycle_of(room: &mut Room) -> Option<u32> {
             }
         }
         if room.parents[node as usize].is_some() && room.marks[node as usize] == first {
-            let mut length = 1;
-            let mut at = room.parents[node as usize]?.tail;
-            while at != node {
-                length += 1;
-                at = room.parents[at as usize]?.tail;
+            let mut arcs = Vec::new();
+            let mut at = node;
+            loop {
+                let parent = room.parents[at as usize]?;
+                arcs.push(parent.arc);
+                at = parent.tail;
+                if at == node {
+                    arcs.reverse();
+                    return Some(arcs);
+                }
             }
-            return Some(length);
         }
     }
     None
@@ -90,21 +99,22 @@ fn cycle_of(room: &mut Room) -> Option<u32> {
 fn sweep(arcs: &[Arc], down: bool, room: &mut Room) -> bool {
     let mut changed = false;
     if down {
-        for arc in arcs.iter().rev() {
-            changed |= relax(*arc, room);
+        for (number, arc) in arcs.iter().enumerate().rev() {
+            changed |= relax(number, *arc, room);
         }
     } else {
-        for arc in arcs {
-            changed |= relax(*arc, room);
+        for (number, arc) in arcs.iter().enumerate() {
+            changed |= relax(number, *arc, room);
         }
     }
     changed
 }
 
-fn settle(arcs: &[Arc], room: &mut Room) -> Option<u32> {
+fn settle(arcs: &[Arc], room: &mut Room) -> Option<Vec<u32>> {
+    room.parents.fill(None);
     while sweep(arcs, false, room) && sweep(arcs, true, room) {
-        if let Some(length) = cycle_of(room) {
-            return Some(length);
+        if let Some(cycle) = cycle_of(room) {
+            return Some(cycle);
         }
     }
     None
@@ -118,7 +128,7 @@ fn main() {
     for _ in 0..NODES {
         let (next, number) = next_hundredths(state);
         state = next;
-        distances.push((number % 100_000) as i64);
+        distances.push((number % 100_000) as i128);
     }
     let mut room = Room {
         distances,
@@ -129,7 +139,7 @@ fn main() {
     let cycle = settle(&arcs, &mut room);
     let nanos = began.elapsed().as_nanos() as u64;
     let answer = match cycle {
-        Some(length) => i64::from(length),
+        Some(cycle) => cycle.len() as i128,
         None => room.distances.iter().sum(),
     };
     println!("{} {answer}", nanos * 1000 / arcs.len() as u64);

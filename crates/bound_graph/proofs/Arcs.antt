@@ -7,7 +7,9 @@ use Rattle.screen_model.specs.declared.place.End.TheVariants.{Zero, At}
 use Rattle.screen_model.specs.declared.bound.Bound.{Bound}
 use Rattle.bound_graph.specs.declared.arc.Arc.{Arc}
 use Rattle.bound_graph.specs.Arcs.{IsArc}
-use Rattle.bound_graph.specs.Graph.{IsEnd, HasEnds, node_of, arc_of}
+use Rattle.bound_graph.specs.Graph.{node_of, arc_of}
+use Rattle.screen_model.specs.Obeys.{HasEnds}
+use Rattle.screen_model.specs.Series.{IsEnd}
 use Rattle.bound_graph.proofs.Nodes.{index_of_contained}
 
 pub tails_below : (nodes count : ℕ) (arcs : List Arc) → count ≡ nodes + 1 → AllByRecursion (IsArc nodes) arcs → AllByRecursion (λ arc. arc.tail < count) arcs

@@ -10,7 +10,9 @@ use Rattle.screen_model.specs.declared.place.End.TheVariants.{Zero, At}
 use Rattle.screen_model.specs.declared.bound.Bound.{Bound}
 use Rattle.screen_model.specs.Lists.{Distinct}
 use Rattle.screen_model.specs.Series.{is_same_place}
-use Rattle.bound_graph.specs.Graph.{index_of, IsEnd, HasEnds, node_of, arc_of}
+use Rattle.bound_graph.specs.Graph.{index_of, node_of, arc_of}
+use Rattle.screen_model.specs.Obeys.{HasEnds}
+use Rattle.screen_model.specs.Series.{IsEnd}
 use Rattle.bound_graph.specs.Ends.{Nodes, is_same, node_in, arc_in, IsNumbered}
 
 one_place : (p q : Place) → is_same_place p q ≡ true → p ≡ q

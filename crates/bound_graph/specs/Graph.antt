@@ -1,5 +1,5 @@
 -- The graph of bounds.
-use Rattle.std.specs.Prelude.{ℕ, suc, ◌+◌, ◌==◌, if◌then◌else◌, List, [], ◌∷◌, length, map, Contains}
+use Rattle.std.specs.Prelude.{ℕ, suc, ◌+◌, ◌==◌, if◌then◌else◌, List, [], ◌∷◌, length, map}
 use Rattle.screen_model.specs.declared.place.Place.{Place}
 use Rattle.screen_model.specs.declared.place.End.{End}
 use Rattle.screen_model.specs.declared.place.End.TheVariants.{Zero, At}
@@ -28,14 +28,6 @@ arc_of places bound = record { tail = node_of places bound.first; head = node_of
 
 abbrev pub graph_of : List Place → List Bound → Digraph
 graph_of places bounds = record { nodes = length places + 1; arcs = map (arc_of places) bounds }
-
--- the end is Zero or the reading at one of the places
-abbrev pub IsEnd : List Place → End → Type 0
-IsEnd places Zero = Unit {0}
-IsEnd places (At p) = Contains places p
-
-abbrev pub HasEnds : List Place → Bound → Type 0
-HasEnds places bound = IsEnd places bound.first × IsEnd places bound.second
 
 -- the numbers of the arcs that leave a node, in rising order; the first arc of the list has the number given
 abbrev pub leaving_from : ℕ → List Arc → ℕ → List ℕ

@@ -2,7 +2,8 @@
 ghost use Rattle.std.specs.Prelude.{◌≡◌, ◌<◌, ◌+◌, ◌^◌, length, map, IfOk};
 ghost use Rattle.std.specs.List.{AllByRecursion};
 ghost use Rattle.screen_model.specs.Lists.{Distinct};
-ghost use Rattle.bound_graph.specs.Graph.{arc_of, HasEnds};
+ghost use Rattle.bound_graph.specs.Graph.{arc_of};
+ghost use Rattle.screen_model.specs.Obeys.{HasEnds};
 ghost use Rattle.bound_graph.specs.Ends.{arc_in, node_in, IsNumbered};
 
 use crate::arc::Arc;

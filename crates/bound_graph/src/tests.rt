@@ -1,7 +1,7 @@
 ghost use Rattle.std.specs.Prelude.{◌≡◌, ◌<◌, ◌≤◌, ◌*◌, ◌^◌, length, unsigned_abs, IfOk};
 ghost use Rattle.std.specs.List.{AllByRecursion};
 ghost use Rattle.screen_model.specs.Lists.{Distinct};
-ghost use Rattle.bound_graph.specs.Graph.{HasEnds};
+ghost use Rattle.screen_model.specs.Obeys.{HasEnds};
 
 use crate::{Arc, ArcList, ArcTable, Graph};
 use screen_model::{Bound, BoundList, BoundName, End, Place, Places, Side};

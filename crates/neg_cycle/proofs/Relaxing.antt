@@ -1,12 +1,12 @@
 -- What relaxing an arc keeps of the labels.
-use Rattle.std.proofs.Common.{◌≡◌, ◌≢◌, ℕ, zero, suc, ◌+◌, ◌*◌, ◌^◌, ◌<◌, ◌≤◌, ◌⊎◌, ℤ, pos, negsuc, ◌+ℤ◌, ◌≤ℤ◌, ◌<ℤ◌, List, [], ◌∷◌, Bool, true, false, true≢false, IsTrue, ◌↔◌, Option, None, Some, MatchOption, length, get_or, set, unsigned_abs, refl, sym, ap, ◌∙◌, subst, inl, inr, ⊎_elim, arith, get_or-set_same, get_or-set_other}
+use Rattle.std.proofs.Common.{◌≡◌, ◌≢◌, ℕ, ◌+◌, ◌*◌, ◌^◌, ◌<◌, ◌≤◌, ℤ, pos, negsuc, ◌+ℤ◌, ◌≤ℤ◌, ◌<ℤ◌, List, Bool, true, false, true≢false, IsTrue, ◌↔◌, Option, None, Some, MatchOption, length, get_or, set, unsigned_abs, refl, sym, ap, ◌∙◌, subst, inl, inr, ⊎_elim, arith, get_or-set_same, get_or-set_other}
 use Rattle.std.proofs.lemmas.Int.{ints, by_lt_z}
 use Rattle.std.proofs.lemmas.List.{length-set}
 use Rattle.std.proofs.lemmas.Bool.{cases_eq}
 use Rattle.bound_graph.specs.declared.arc.Arc.{Arc}
 use Rattle.bound_graph.specs.Arcs.{arc_at, IsArc}
 use Rattle.neg_cycle.specs.declared.forest.Parent.{Parent}
-use Rattle.neg_cycle.specs.Distances.{Keeps, Obeys, AreAtMost}
+use Rattle.neg_cycle.specs.Distances.{Keeps, AreAtMost}
 use Rattle.neg_cycle.specs.Forest.{parent_at}
 use Rattle.neg_cycle.specs.Labels.{IsParentOf, IsWithin, IsLabelling, Lowers, Fell}
 use Rattle.neg_cycle.specs.declared.labels.Labels.{Labels}

@@ -1,5 +1,5 @@
 -- Sums of lists of signed numbers.
-use Rattle.std.proofs.Common.{◌≡◌, ℕ, zero, suc, ◌+◌, ◌*◌, ◌<◌, ℤ, pos, ◌+ℤ◌, ◌≤ℤ◌, ◌<ℤ◌, List, [], ◌∷◌, ◌++◌, length, get_or, set, reverse, refl, ap, arith}
+use Rattle.std.proofs.Common.{◌≡◌, ℕ, zero, suc, ◌*◌, ◌<◌, ℤ, pos, ◌+ℤ◌, ◌≤ℤ◌, ◌<ℤ◌, List, [], ◌∷◌, ◌++◌, length, get_or, set, reverse, refl, arith}
 use Rattle.std.proofs.lemmas.Int.{ints}
 use Rattle.neg_cycle.proofs.Rotations.{reverse_cons}
 use Rattle.screen_model.specs.Lists.{rotated, total}

@@ -7,7 +7,8 @@ ghost use Rattle.neg_cycle.specs.Labels.{AreLabels, Fell, IsWithin, Lowers};
 use crate::forest::Parent;
 use bound_graph::{Arc, ArcList};
 
-/// For each node its distance, the arc that lowered it last, and a rank by which it stands above the tail of that arc.
+/// For each node its distance, the arc that lowered it last, and a rank, which is above that of the arc's tail
+/// unless the tail was lowered since.
 #[derive(Drop)]
 pub(crate) struct Labels {
     pub(crate) distances: Vec<i128>,

@@ -23,7 +23,7 @@ pub enum Settled {
 
 /// Lowers the distances in the room, the start values, until they obey every arc that is there.
 ///
-/// Where a cycle is found instead, the distances are left as far as they were lowered. Takes no memory.
+/// Where a cycle is found instead, nothing is promised of the distances. Takes no memory.
 pub fn settle<A: ArcList>(arcs: &A, room: &mut Room) -> Settled
     requires nodes { length room.old.distances ≡ A.node_count arcs.now }
     requires starts { All (λ start. unsigned_abs start ≤ 4 * 10 ^ 15) room.old.distances }
@@ -84,8 +84,8 @@ fn sweep_twice<A: ArcList>(arcs: &A, labels: &mut Labels) -> bool
     sweep_up(arcs, nodes, labels) && sweep_down(arcs, nodes + u64::from(arcs.arcs()), labels)
 }
 
-// Relaxes each arc, in rising order of the numbers. Answers whether a distance was lowered. Each node whose distance
-// was has a rank from `bound` on.
+// Relaxes each arc, in rising order of the numbers. Answers whether a distance was lowered. The ranks that it gives begin
+// at `bound`.
 fn sweep_up<A: ArcList>(arcs: &A, bound: u64, labels: &mut Labels) -> bool
     requires nodes { length labels.old.distances.items ≡ A.node_count arcs.now }
     requires bound { bound < 2 ^ 33 }

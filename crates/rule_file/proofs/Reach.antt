@@ -20,7 +20,7 @@ use Rattle.rule_file.specs.declared.rules.SpeedRule.{SpeedRule}
 use Rattle.rule_file.specs.declared.rules.DriftRule.{DriftRule}
 use Rattle.rule_file.specs.Document.{ReadsRules}
 use Rattle.rule_file.specs.Draft.{AreDraftOf}
-use Rattle.rule_file.specs.Limits.{IsWithinReach, Reaches}
+use Rattle.rule_file.specs.Limits.{IsInReach, AreInReach}
 use Rattle.rule_file.specs.Meaning.{Entries, of_kind, form_number, form_at, scale_of, IsFormatOf, IsSpeed, IsDrift}
 use Rattle.rule_file.proofs.Names.{reads_passes}
 
@@ -50,16 +50,16 @@ drifts_pass d ((Drift, entries) ∷ read) all = (all.0, drifts_pass d read all.1
 drifts_pass d ((_, entries) ∷ read) all = drifts_pass d read all.1
 
 pub within_reach : (d : ℕ) (z per window span : ℤ) (rate : Rate) → z ≡ rate.millionths → per ≡ pos rate.per → window ≡ span
-    → Keys.Reaches d z per window → IsWithinReach d rate span
+    → Keys.IsInReach d z per window → IsInReach d rate span
 within_reach d z per window span rate is_z is_per is_window reaches = rw (is_z, is_per, is_window) at reaches
 
-pub speed_reaches : (d : ℕ) (entries : Entries) (rule : SpeedRule) → IsSpeed entries rule → PassesAll d Speed entries → Reaches d rule.min rule.max rule.window
+pub speed_reaches : (d : ℕ) (entries : Entries) (rule : SpeedRule) → IsSpeed entries rule → PassesAll d Speed entries → AreInReach d rule.min rule.max rule.window
 speed_reaches d entries rule means passes = (
   within_reach d _ _ _ rule.window rule.min means.min.0 means.min.1 means.window passes.1.0,
   within_reach d _ _ _ rule.window rule.max means.max.0 means.max.1 means.window passes.1.1.0,
 )
 
-pub drift_reaches : (d : ℕ) (entries : Entries) (rule : DriftRule) → IsDrift entries rule → PassesAll d Drift entries → Reaches d rule.min rule.max rule.window
+pub drift_reaches : (d : ℕ) (entries : Entries) (rule : DriftRule) → IsDrift entries rule → PassesAll d Drift entries → AreInReach d rule.min rule.max rule.window
 drift_reaches d entries rule means passes = (
   within_reach d _ _ _ rule.window rule.min means.min.0 means.min.1 means.window passes.1.1.0,
   within_reach d _ _ _ rule.window rule.max means.max.0 means.max.1 means.window passes.1.1.1.0,
@@ -74,19 +74,19 @@ carried Is P Q one (entries ∷ read) [] zip all = absurd zip
 carried Is P Q one (entries ∷ read) (rule ∷ rules) zip all = (one entries rule zip.0 all.0, carried Is P Q one read rules zip.1 all.1)
 
 pub speeds_reach : (scale : Scale) (d : ℕ) (tables : List (TableKind × Members)) (read : List (TableKind × Entries)) (draft : Draft)
-    → scale.decimals ≡ d → ReadsRules scale 1 tables (Ok read) → AreDraftOf read draft → All (λ rule. Reaches d rule.min rule.max rule.window) draft.speeds
+    → scale.decimals ≡ d → ReadsRules scale 1 tables (Ok read) → AreDraftOf read draft → All (λ rule. AreInReach d rule.min rule.max rule.window) draft.speeds
 speeds_reach scale d tables read draft same reads kept =
     rw (← same)
-    (All-from_recursion (λ (rule : SpeedRule). Reaches scale.decimals rule.min rule.max rule.window) draft.speeds
-    (carried IsSpeed (PassesAll scale.decimals Speed) (λ (rule : SpeedRule). Reaches scale.decimals rule.min rule.max rule.window)
+    (All-from_recursion (λ (rule : SpeedRule). AreInReach scale.decimals rule.min rule.max rule.window) draft.speeds
+    (carried IsSpeed (PassesAll scale.decimals Speed) (λ (rule : SpeedRule). AreInReach scale.decimals rule.min rule.max rule.window)
     (speed_reaches scale.decimals) (of_kind Speed read) draft.speeds kept.speeds (speeds_pass scale.decimals read (rules_pass scale 1 tables read reads))))
 
 pub drifts_reach : (scale : Scale) (d : ℕ) (tables : List (TableKind × Members)) (read : List (TableKind × Entries)) (draft : Draft)
-    → scale.decimals ≡ d → ReadsRules scale 1 tables (Ok read) → AreDraftOf read draft → All (λ rule. Reaches d rule.min rule.max rule.window) draft.drifts
+    → scale.decimals ≡ d → ReadsRules scale 1 tables (Ok read) → AreDraftOf read draft → All (λ rule. AreInReach d rule.min rule.max rule.window) draft.drifts
 drifts_reach scale d tables read draft same reads kept =
     rw (← same)
-    (All-from_recursion (λ (rule : DriftRule). Reaches scale.decimals rule.min rule.max rule.window) draft.drifts
-    (carried IsDrift (PassesAll scale.decimals Drift) (λ (rule : DriftRule). Reaches scale.decimals rule.min rule.max rule.window)
+    (All-from_recursion (λ (rule : DriftRule). AreInReach scale.decimals rule.min rule.max rule.window) draft.drifts
+    (carried IsDrift (PassesAll scale.decimals Drift) (λ (rule : DriftRule). AreInReach scale.decimals rule.min rule.max rule.window)
     (drift_reaches scale.decimals) (of_kind Drift read) draft.drifts kept.drifts (drifts_pass scale.decimals read (rules_pass scale 1 tables read reads))))
 
 -- what the rules are counted in

@@ -37,9 +37,9 @@ abbrev pub IsPeriod : ℤ → ℤ → Type 0
 IsPeriod from to = IsMoment from × IsMoment to × (from ≤ℤ to)
 
 -- a rate allows at most 4·10^15 units of 10^-d within the window
-abbrev pub IsWithinReach : ℕ → Rate → ℤ → Type 0
-IsWithinReach d rate window = unsigned_abs rate.millionths * 10 ^ d * unsigned_abs window ≤ 4 * 10 ^ 30 * rate.per
+abbrev pub IsInReach : ℕ → Rate → ℤ → Type 0
+IsInReach d rate window = unsigned_abs rate.millionths * 10 ^ d * unsigned_abs window ≤ 4 * 10 ^ 30 * rate.per
 
 -- so do both rates
-abbrev pub Reaches : ℕ → Rate → Rate → ℤ → Type 0
-Reaches d min max window = IsWithinReach d min window × IsWithinReach d max window
+abbrev pub AreInReach : ℕ → Rate → Rate → ℤ → Type 0
+AreInReach d min max window = IsInReach d min window × IsInReach d max window

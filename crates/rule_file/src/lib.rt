@@ -12,6 +12,8 @@ mod rate;
 mod read;
 mod rules;
 mod tables;
+#[cfg(test)]
+mod tests;
 mod typed;
 
 pub use fault::RuleFault;

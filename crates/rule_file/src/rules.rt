@@ -1,13 +1,13 @@
 //! The rules of a rule file. Each type keeps its limits.
 ghost use Rattle.std.specs.Prelude.{◌≢◌, ◌≤◌, pos, ◌≤ℤ◌, All};
-ghost use Rattle.rule_file.specs.Limits.{AreRates, IsFormat, IsMoment, IsPeriod, IsSpan, IsUnits, Reaches};
+ghost use Rattle.rule_file.specs.Limits.{AreRates, IsFormat, IsMoment, IsPeriod, IsSpan, IsUnits, AreInReach};
 ghost use Rattle.rule_file.specs.Count.{count_of};
 
 use fix_point::{Extra, Rate};
 use sequence::Sequence;
 use time_text::TimeForm;
 
-/// The name of a column, as bytes, without blanks at its ends.
+/// The name of a column, as bytes; `read_rules` leaves out the blanks at its ends.
 pub type Name = Sequence<u8>;
 
 /// How the file of readings is written.
@@ -175,8 +175,8 @@ pub struct Rules {
     pub weights: WeightList,
     pub betweens: BetweenList,
     pub ghost few: { count_of speeds swings drifts ranges trusts weights betweens ≤ 1000 },
-    pub ghost speed_reach: { All (λ rule. Reaches format.decimals rule.min rule.max rule.window) speeds },
-    pub ghost drift_reach: { All (λ rule. Reaches format.decimals rule.min rule.max rule.window) drifts },
+    pub ghost speed_reach: { All (λ rule. AreInReach format.decimals rule.min rule.max rule.window) speeds },
+    pub ghost drift_reach: { All (λ rule. AreInReach format.decimals rule.min rule.max rule.window) drifts },
 }
 
 impl Rules {

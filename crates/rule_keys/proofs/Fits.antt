@@ -26,7 +26,7 @@ use Rattle.rule_keys.specs.Entries.{Meaning, number, name, no_name, is_same_key,
 use Rattle.rule_keys.specs.Keys.{keys_of, checks_of}
 use Rattle.rule_keys.specs.Reading.{ReadsAbsent, ReadsFound, ReadsKeys}
 use Rattle.rule_keys.specs.Values.{IsWordAt, ReadsWhole, ReadsScaled, ReadsMoment, ReadsWord, ReadsName, ReadsValue, ReadsInteger}
-use Rattle.rule_keys.specs.Within.{IsWithinReach}
+use Rattle.rule_keys.specs.Within.{HasSmallNumbers}
 use Rattle.rule_keys.specs.Words.{words}
 
 pub within_size : (z : ℤ) (n : ℕ) → unsigned_abs z ≤ n → (neg_ℤ (pos n) ≤ℤ z) × (z ≤ℤ pos n)
@@ -217,7 +217,7 @@ rate_within keys entries rate a b c ra ka rb kb rc kc fit = (
   number_size (meaning_at Window entries) (pos 1) (10 ^ 17) (omega (arith, ints)) (rw kc at (entry_fits Window keys entries c rc fit)),
 )
 
-pub checks_within : (kind : TableKind) (entries : List (KeyName × Meaning)) → Fit (keys_of kind) entries → AllByRecursion (IsWithinReach entries) (checks_of kind)
+pub checks_within : (kind : TableKind) (entries : List (KeyName × Meaning)) → Fit (keys_of kind) entries → AllByRecursion (HasSmallNumbers entries) (checks_of kind)
 checks_within kind_of.Format entries fit = tt
 checks_within kind_of.Speed entries fit = (
   tt,

@@ -19,7 +19,7 @@ use Rattle.rule_keys.specs.declared.read.Scale.{Scale}
 use Rattle.rule_keys.specs.Entries.{Meaning}
 use Rattle.rule_keys.specs.Keys.{keys_of, checks_of}
 use Rattle.rule_keys.specs.Reading.{Told, HasOnly, ReadsKey, ReadsKeys, Passes, Fails, Reads, cause_of}
-use Rattle.rule_keys.specs.Within.{IsWithinReach}
+use Rattle.rule_keys.specs.Within.{HasSmallNumbers}
 use Rattle.rule_keys.proofs.Known.{texts}
 
 abbrev pub Answer : Type 0
@@ -69,9 +69,9 @@ all_read scale given keys i before past so_far = so_far_all scale given keys bef
 pub record IsCheckedSoFar (d : ℕ) (entries : List (KeyName × Meaning)) (checks left : List Check) : Type 0 where
   pub passes : AllByRecursion (Passes d entries) left → AllByRecursion (Passes d entries) checks
   pub fails : (cause : RuleCause) → Fails d entries left cause → Fails d entries checks cause
-  pub within : AllByRecursion (IsWithinReach entries) left
+  pub within : AllByRecursion (HasSmallNumbers entries) left
 
-pub checked_none : (d : ℕ) (entries : List (KeyName × Meaning)) (checks : List Check) → AllByRecursion (IsWithinReach entries) checks → IsCheckedSoFar d entries checks checks
+pub checked_none : (d : ℕ) (entries : List (KeyName × Meaning)) (checks : List Check) → AllByRecursion (HasSmallNumbers entries) checks → IsCheckedSoFar d entries checks checks
 checked_none d entries checks within = record { passes = λ p. p; fails = λ cause f. f; within = within }
 
 pub checked_more : (d : ℕ) (entries : List (KeyName × Meaning)) (checks left : List Check) (check : Check)

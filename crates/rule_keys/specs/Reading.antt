@@ -53,12 +53,12 @@ ReadsKeys scale given (key ∷ keys) (Err cause) =
     ⊎ ((meaning : Meaning) × ReadsKey scale given key (Ok meaning) × ReadsKeys scale given keys (Err cause))
 
 -- a rate of so many millionths for each `per` seconds allows at most 4·10^15 units of 10^-d within the window
-abbrev pub Reaches : ℕ → ℤ → ℤ → ℤ → Type 0
-Reaches d millionths per window = unsigned_abs millionths * 10 ^ d * unsigned_abs window ≤ 4 * 10 ^ 30 * unsigned_abs per
+abbrev pub IsInReach : ℕ → ℤ → ℤ → ℤ → Type 0
+IsInReach d millionths per window = unsigned_abs millionths * 10 ^ d * unsigned_abs window ≤ 4 * 10 ^ 30 * unsigned_abs per
 
 abbrev pub Passes : ℕ → List (KeyName × Meaning) → Check → Type 0
 Passes d entries (Order low high) = number_at low entries ≤ℤ number_at high entries
-Passes d entries (Reach rate) = Reaches d (number_at rate entries) (number_at Per entries) (number_at Window entries)
+Passes d entries (Reach rate) = IsInReach d (number_at rate entries) (number_at Per entries) (number_at Window entries)
 Passes d entries (Differ first second) = name_at first entries ≢ name_at second entries
 
 abbrev pub cause_of : Check → RuleCause

@@ -56,8 +56,8 @@ abbrev pub ReadsScaledText : ℕ → ℕ → List ℕ → Result ℤ RuleCause �
 ReadsScaledText d most text answer =
     Answers (IsScaled text d Refuse (pos most)) BadNumber ((fault : NumFault) × Scaled.Refuses text d Refuse (pos most) fault) answer
 
--- The number of units of 10^-d: of a TOML integer, which is that many wholes, or of a number text, which may
--- have no more decimals. It is at most so great in size.
+-- The number of units of 10^-d: of a TOML integer, which is that many wholes, or of a number text, which has
+-- to be a whole number of them. It is at most so great in size.
 abbrev pub ReadsScaled : ℕ → ℕ → Data → Result ℤ RuleCause → Type 0
 ReadsScaled d most (integer z) answer = ReadsScaledWhole d most z answer
 ReadsScaled d most (string text) answer = ReadsScaledText d most text answer
@@ -105,7 +105,7 @@ ReadsNumber scale Moment found answer = ReadsMoment scale.form found answer
 ReadsNumber scale (Word choice) found answer = ReadsWord choice found answer
 ReadsNumber scale Name found answer = ⊥
 
--- what stands at a key of this kind
+-- a string, without the blanks at its ends
 abbrev pub ReadsName : Data → Result Meaning RuleCause → Type 0
 ReadsName (string text) answer = answer ≡ Ok (name (trimmed text))
 ReadsName _ answer = answer ≡ Err WrongKind
@@ -116,6 +116,7 @@ AsNumber Reads (Ok (name s)) = ⊥
 AsNumber Reads (Ok no_name) = ⊥
 AsNumber Reads (Err cause) = Reads (Err cause)
 
+-- what stands at a key of this kind
 abbrev pub ReadsValue : Scale → Kind → Data → Result Meaning RuleCause → Type 0
 ReadsValue scale Name found answer = ReadsName found answer
 ReadsValue scale kind found answer = AsNumber (ReadsNumber scale kind found) answer

@@ -1,8 +1,8 @@
 //! What is looked at once all keys of a table are read.
 ghost use Rattle.std.specs.Prelude.{◌≡◌, ◌≢◌, ◌*◌, ◌^◌, ◌≤◌, ◌↔◌, pos, ◌≤ℤ◌, unsigned_abs, option_map, IsTrue, MatchOption};
 ghost use Rattle.std.specs.List.{AllByRecursion};
-ghost use Rattle.rule_keys.specs.Reading.{Fails, Passes, Reaches, cause_of};
-ghost use Rattle.rule_keys.specs.Within.{IsWithinReach};
+ghost use Rattle.rule_keys.specs.Reading.{Fails, Passes, IsInReach, cause_of};
+ghost use Rattle.rule_keys.specs.Within.{HasSmallNumbers};
 
 use crate::cause::RuleCause;
 use crate::entries::Entries;
@@ -14,7 +14,7 @@ const MOST_REACH: u128 = 4_000_000_000_000_000_000_000_000_000_000;
 /// The cause of the first check that does not pass.
 pub(crate) fn check_all(d: u32, entries: &Entries, checks: &[Check]) -> Option<RuleCause>
     requires decimals { d ≤ 6 }
-    requires within { AllByRecursion (IsWithinReach entries.now) checks.now }
+    requires within { AllByRecursion (HasSmallNumbers entries.now) checks.now }
     ensures { MatchOption result (AllByRecursion (Passes d entries.now) checks.now) (Fails d entries.now checks.now) }
 {
     for check in checks {
@@ -37,7 +37,7 @@ fn cause_of(check: Check) -> RuleCause
 
 fn passes(d: u32, entries: &Entries, check: Check) -> bool
     requires decimals { d ≤ 6 }
-    requires within { IsWithinReach entries.now check }
+    requires within { HasSmallNumbers entries.now check }
     ensures { IsTrue result ↔ Passes d entries.now check }
 {
     match check {
@@ -65,7 +65,7 @@ fn reaches(d: u32, millionths: i64, per: i64, window: i64) -> bool
     requires rate { unsigned_abs millionths ≤ 10 ^ 15 }
     requires per { unsigned_abs per ≤ 10 ^ 7 }
     requires window { unsigned_abs window ≤ 10 ^ 17 }
-    ensures { IsTrue result ↔ Reaches d millionths per window }
+    ensures { IsTrue result ↔ IsInReach d millionths per window }
 {
     let reach = u128::from(millionths.unsigned_abs())
         * 10_u128.pow(d)

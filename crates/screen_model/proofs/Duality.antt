@@ -13,5 +13,5 @@ weak problem series flow whole full obeys admissible =
     omega (arith, ints, pull, change, pay)
 
 pub least : BestCostsLeast
-least problem series other flow whole full best obeys =
-    omega (arith, ints, best.equal, weak problem other flow whole full obeys best.admissible)
+least problem series other flow full best obeys =
+    omega (arith, ints, best.equal, weak problem other flow best.sound full obeys best.admissible)

@@ -7,9 +7,10 @@ use Rattle.screen_model.specs.Obeys.{Priced, Obeys}
 use Rattle.screen_model.specs.Cost.{Problem, IsProblem, IsSeries, cost}
 use Rattle.screen_model.specs.Flow.{Stream, IsAdmissible, dual_value}
 
--- The series has a value for each reading and obeys, and an admissible flow has a dual value as great as what
--- the series costs.
+-- In a problem that is one, the series has a value for each reading and obeys, and an admissible flow has a dual
+-- value as great as what the series costs.
 pub record IsBest (problem : Problem) (series : List ℤ) (flow : List Stream) : Type 0 where
+  pub sound : IsProblem problem
   pub whole : IsSeries problem series
   pub obeys : Obeys problem.places series problem.bounds
   pub admissible : IsAdmissible problem flow
@@ -32,7 +33,7 @@ WeakDuality = (problem : Problem) (series : List ℤ) (flow : List Stream) → I
 
 -- So no series that obeys costs less than a best one.
 abbrev pub BestCostsLeast : Type 0
-BestCostsLeast = (problem : Problem) (series other : List ℤ) (flow : List Stream) → IsProblem problem → IsSeries problem other
+BestCostsLeast = (problem : Problem) (series other : List ℤ) (flow : List Stream) → IsSeries problem other
     → IsBest problem series flow → Obeys problem.places other problem.bounds → cost problem series ≤ cost problem other
 
 -- A blocked cycle forbids every series.

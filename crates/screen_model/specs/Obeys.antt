@@ -3,7 +3,7 @@ use Rattle.std.specs.Prelude.{◌≡◌, ℕ, ℤ, ◌-ℤ◌, ◌≤ℤ◌, Lis
 use Rattle.std.specs.List.{AllByRecursion}
 use Rattle.screen_model.specs.declared.place.Place.{Place}
 use Rattle.screen_model.specs.declared.bound.Bound.{Bound}
-use Rattle.screen_model.specs.Series.{value_at}
+use Rattle.screen_model.specs.Series.{value_at, IsEnd}
 
 -- a bound, and what it costs to break it by a unit; 0 is no price, and the bound may not be broken
 pub record Priced : Type 0 where
@@ -13,6 +13,10 @@ pub record Priced : Type 0 where
 -- bounds that all have no price
 abbrev pub without_prices : List Bound → List Priced
 without_prices bounds = map (λ bound. record { bound = bound; price = 0 }) bounds
+
+-- both ends are Zero or readings at the places
+abbrev pub HasEnds : List Place → Bound → Type 0
+HasEnds places bound = IsEnd places bound.first × IsEnd places bound.second
 
 -- how far the value at the second end lies above the value at the first
 abbrev pub rise : List Place → List ℤ → Bound → ℤ

@@ -1,5 +1,5 @@
 -- A series: a whole number of units for each reading, in the order of the readings' places.
-use Rattle.std.specs.Prelude.{ℤ, pos, List, [], ◌∷◌, Bool, ◌&&◌, ◌==◌, if◌then◌else◌}
+use Rattle.std.specs.Prelude.{ℤ, pos, List, [], ◌∷◌, Bool, ◌&&◌, ◌==◌, if◌then◌else◌, Contains}
 use Rattle.screen_model.specs.declared.place.Place.{Place}
 use Rattle.screen_model.specs.declared.place.End.{End}
 use Rattle.screen_model.specs.declared.place.End.TheVariants.{Zero, At}
@@ -17,3 +17,8 @@ reading_at (q ∷ places) [] p = pos 0
 abbrev pub value_at : List Place → List ℤ → End → ℤ
 value_at places series Zero = pos 0
 value_at places series (At p) = reading_at places series p
+
+-- the end is Zero or the reading at one of the places
+abbrev pub IsEnd : List Place → End → Type 0
+IsEnd places Zero = Unit {0}
+IsEnd places (At p) = Contains places p

@@ -42,6 +42,6 @@ pub struct Bound {
 pub struct FlowItem {
     /// The bound.
     pub name: BoundName,
-    /// How much flows, at least 1 in a flow that means anything.
+    /// How much flows, at least 1 in an admissible flow.
     pub amount: i64,
 }

@@ -1,7 +1,7 @@
 use Rattle.std.proofs.Common.{ℕ, ◌+◌, ◌*◌, ◌/◌, ◌%◌, ◌^◌, ◌<◌, ◌≤◌, List, length, get_or, unsigned_abs, Contains, arith}
 use Rattle.std.proofs.lemmas.List.{length_push, get_or_default}
 use Rattle.screen_model.specs.declared.place.Place.{Place}
-use Rattle.bound_graph.specs.Graph.{HasEnds}
+use Rattle.screen_model.specs.Obeys.{HasEnds}
 use Rattle.bound_graph.proofs.Lists.{all_push}
 use Rattle.bound_graph.proofs.tests.ring.Goals as goal
 

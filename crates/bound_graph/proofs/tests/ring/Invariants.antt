@@ -1,6 +1,6 @@
 use Rattle.std.proofs.Common.{◌≡◌, ◌≤◌, ◌*◌, ◌^◌, length, unsigned_abs}
 use Rattle.std.specs.List.{AllByRecursion}
-use Rattle.bound_graph.specs.Graph.{HasEnds}
+use Rattle.screen_model.specs.Obeys.{HasEnds}
 use Rattle.bound_graph.proofs.tests.ring.Given as goal
 
 abbrev pub invariant-loop-i : goal.invariant-loop-i

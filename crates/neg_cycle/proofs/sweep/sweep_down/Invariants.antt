@@ -1,4 +1,4 @@
-use Rattle.std.proofs.Common.{◌≡◌, ◌<◌, ◌≤◌, ◌+◌, ◌-◌, ℕ, false, length}
+use Rattle.std.proofs.Common.{◌≡◌, ◌≤◌, ◌+◌, ◌-◌, ℕ, false, length}
 use Rattle.bound_graph.specs.Arcs.{arc_at}
 use Rattle.neg_cycle.specs.Distances.{Keeps}
 use Rattle.neg_cycle.specs.Labels.{IsLabelling, Fell, Lowers}

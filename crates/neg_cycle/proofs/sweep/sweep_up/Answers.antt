@@ -1,5 +1,4 @@
 use Rattle.std.proofs.Common.{◌≡◌, ◌<◌, ◌+◌, ◌⊎◌, ℕ, ◌∙◌, subst, arith}
-use Rattle.std.proofs.lemmas.Bool.{cases_lt}
 use Rattle.neg_cycle.specs.Labels.{IsLabelling}
 use Rattle.neg_cycle.proofs.Relaxing.{lowers_trans}
 use Rattle.neg_cycle.proofs.Sweeping.{fell_more, kept_more}

@@ -1,0 +1,301 @@
+use crate::RuleCause::{
+    BadNumber, FileTooLong, MissingKey, Order, OutOfLimit, ReachTooLarge, SameSensor, Syntax,
+    TooMany, UnknownKey, WrongKind,
+};
+use crate::{RuleCause, RuleFault, read_rules};
+use fix_point::Extra;
+use std::alloc::{AllocError, Global};
+use std::test::Fail;
+use time_text::TimeForm;
+
+/// 10^15, the greatest size of a value.
+const MOST: i64 = 1_000_000_000_000_000;
+
+/// 9*10^18, the greatest size of a tick.
+const LAST: i64 = 9_000_000_000_000_000_000;
+
+const BASE: &str = "[format]
+decimals = 0
+[[speed]]
+sensor = \"x\"
+min = -1
+max = 1
+per = 1
+window = 10
+";
+
+const FUEL: &str = "[format]
+decimals = 2
+time = \"time\"
+form = \"instant\"
+[[speed]]
+sensor = \"fuel\"
+min = \"-0.05\"
+max = \"0.05\"
+window = 60
+[[range]]
+sensor = \"fuel\"
+min = 0
+max = 120
+";
+
+/// Rules of all kinds, in no order of their kinds.
+const MIXED: &str = "[[between]]
+first = \"a\"
+second = \"b\"
+min = -1
+max = 1
+[[weight]]
+sensor = \"a\"
+weight = 3
+[[trust]]
+sensor = \" a\t\"
+from = 5
+to = \"9\"
+[[speed]]
+sensor = \"a\"
+min = 0
+max = 1
+window = 1
+[[range]]
+sensor = \"b\"
+[[drift]]
+sensor = \"a\"
+min = -2
+max = \"2\"
+per = 3600
+over = 60
+window = 600
+[[swing]]
+sensor = \"b\"
+most = \"1.5\"
+window = 2
+[[speed]]
+sensor = \"c\"
+min = 0
+max = 1
+window = 1
+[format]
+decimals = 1
+separator = \";\"
+extra = \"round\"
+hold = 20000
+";
+
+/// The first fault of a text, if it has any.
+fn fault_of(alloc: Global, text: &str) -> Option<RuleFault> {
+    read_rules(alloc, text.as_bytes()).err()
+}
+
+fn fault(cause: RuleCause, rule: u32) -> Option<RuleFault> {
+    Some(RuleFault { cause, rule })
+}
+
+/// A text with another one in the place of one of its parts.
+fn changed(alloc: Global, text: &str, part: &str, other: &str) -> Result<String, AllocError> {
+    match text.split_once(part) {
+        Some((before, after)) => format!(in alloc; "{before}{other}{after}"),
+        None => String::from_str(alloc, text),
+    }
+}
+
+#[test]
+fn a_speed_rule(rt: HostRuntime) -> Result<(), Fail> {
+    let rules = read_rules(rt.alloc(), BASE.as_bytes())?;
+    assert_eq!(rt; rules.count(), 1);
+    assert_eq!(rt; rules.format.decimals, 0);
+    assert!(rt; rules.format.time.is_none());
+    assert!(rt; rules.format.form == TimeForm::Sec);
+    assert_eq!(rt; rules.format.separator, b',');
+    assert_eq!(rt; rules.format.extra, Extra::Refuse);
+    assert_eq!(rt; rules.format.hold, 4096);
+    for speed in rules.speeds.as_slice() {
+        assert_eq!(rt; speed.sensor.bytes(), b"x".as_slice());
+        assert_eq!(rt; (speed.min.millionths, speed.min.per), (-1_000_000, 1));
+        assert_eq!(rt; (speed.max.millionths, speed.max.per), (1_000_000, 1));
+        assert_eq!(rt; speed.window, 10_000_000_000);
+    }
+    Ok(())
+}
+
+#[test]
+fn rules_of_a_tank(rt: HostRuntime) -> Result<(), Fail> {
+    let rules = read_rules(rt.alloc(), FUEL.as_bytes())?;
+    assert_eq!(rt; rules.count(), 2);
+    assert_eq!(rt; rules.format.decimals, 2);
+    assert!(rt; rules.format.form == TimeForm::Instant);
+    assert_eq!(rt;
+        rules.format.time.as_ref().map(|name| name.bytes()),
+        Some(b"time".as_slice())
+    );
+    let speed = rules.speeds.get(0).expect(&rt, "a speed rule");
+    assert_eq!(rt; speed.sensor.bytes(), b"fuel".as_slice());
+    assert_eq!(rt;
+        (speed.min.millionths, speed.max.millionths),
+        (-50_000, 50_000)
+    );
+    assert_eq!(rt; speed.window, 60_000_000_000);
+    let range = rules.ranges.get(0).expect(&rt, "a range rule");
+    assert_eq!(rt; range.sensor.bytes(), b"fuel".as_slice());
+    assert_eq!(rt; (range.min, range.max), (0, 12_000));
+    assert_eq!(rt; (range.from, range.to), (-LAST, LAST));
+    Ok(())
+}
+
+#[test]
+fn rates_and_differences_of_all_kinds(rt: HostRuntime) -> Result<(), Fail> {
+    let rules = read_rules(rt.alloc(), MIXED.as_bytes())?;
+    assert_eq!(rt; rules.count(), 8);
+    assert_eq!(rt; rules.format.separator, b';');
+    assert_eq!(rt; rules.format.extra, Extra::Round);
+    assert_eq!(rt; rules.format.hold, 20_000);
+    let first = rules.speeds.get(0).expect(&rt, "a speed rule");
+    let second = rules.speeds.get(1).expect(&rt, "another speed rule");
+    assert_eq!(rt; first.sensor.bytes(), b"a".as_slice());
+    assert_eq!(rt; second.sensor.bytes(), b"c".as_slice());
+    let swing = rules.swings.get(0).expect(&rt, "a swing rule");
+    assert_eq!(rt; (swing.most, swing.window), (15, 2_000_000_000));
+    let drift = rules.drifts.get(0).expect(&rt, "a drift rule");
+    let (least, greatest) = (-2_000_000, 2_000_000);
+    assert_eq!(rt; (drift.min.millionths, drift.min.per), (least, 3600));
+    assert_eq!(rt; (drift.max.millionths, drift.max.per), (greatest, 3600));
+    assert_eq!(rt;
+        (drift.over, drift.window),
+        (60_000_000_000, 600_000_000_000)
+    );
+    Ok(())
+}
+
+#[test]
+fn limits_and_periods_of_all_kinds(rt: HostRuntime) -> Result<(), Fail> {
+    let rules = read_rules(rt.alloc(), MIXED.as_bytes())?;
+    let range = rules.ranges.get(0).expect(&rt, "a range rule");
+    assert_eq!(rt; (range.min, range.max), (-MOST, MOST));
+    let trust = rules.trusts.get(0).expect(&rt, "a trust rule");
+    assert_eq!(rt; trust.sensor.bytes(), b"a".as_slice());
+    assert_eq!(rt; (trust.from, trust.to), (5_000_000_000, 9_000_000_000));
+    let weight = rules.weights.get(0).expect(&rt, "a weight rule");
+    assert_eq!(rt; weight.weight, 3);
+    assert_eq!(rt; (weight.from, weight.to), (-LAST, LAST));
+    let between = rules.betweens.get(0).expect(&rt, "a between rule");
+    assert_eq!(rt; between.first.bytes(), b"a".as_slice());
+    assert_eq!(rt; between.second.bytes(), b"b".as_slice());
+    assert_eq!(rt; (between.min, between.max), (-10, 10));
+    Ok(())
+}
+
+#[test]
+fn rules_are_numbered_kind_by_kind(rt: HostRuntime) -> Result<(), Fail> {
+    let rows = [
+        ("sensor = \"c\"", "sensor = 1", WrongKind, 2),
+        ("most = \"1.5\"", "most = \"1.55\"", BadNumber, 3),
+        ("over = 60", "over = 601", Order, 4),
+        (
+            "sensor = \"b\"\n[[drift]]",
+            "from = 1\n[[drift]]",
+            MissingKey,
+            5,
+        ),
+        ("from = 5", "from = 10", Order, 6),
+        ("weight = 3", "weight = 1001", OutOfLimit, 7),
+        ("second = \"b\"", "second = \"a\"", SameSensor, 8),
+    ];
+    for (part, other, cause, rule) in rows {
+        let text = changed(rt.alloc(), MIXED, part, other)?;
+        assert_eq!(rt;
+            fault_of(rt.alloc(), text.as_str()),
+            fault(cause, rule),
+            "{other}"
+        );
+    }
+    Ok(())
+}
+
+#[test]
+fn causes_one_by_one(rt: HostRuntime) -> Result<(), Fail> {
+    let rows = [
+        ("[[speed]]", "[[speed]", Syntax, 0),
+        ("[format]", "[[format]]", WrongKind, 0),
+        ("decimals = 0", "decimals = 7", OutOfLimit, 0),
+        ("max = 1", "max = 0.5", WrongKind, 1),
+        ("max = 1", "max = \"1,5\"", BadNumber, 1),
+        ("min = -1", "min = 2", Order, 1),
+        ("window", "colour = 1\nwindow", UnknownKey, 1),
+        ("max = 1", "max = 1000000000", ReachTooLarge, 1),
+    ];
+    for (part, other, cause, rule) in rows {
+        let far = changed(rt.alloc(), BASE, "window = 10", "window = 100000000")?;
+        let text = changed(rt.alloc(), far.as_str(), part, other)?;
+        assert_eq!(rt;
+            fault_of(rt.alloc(), text.as_str()),
+            fault(cause, rule),
+            "{other}"
+        );
+    }
+    assert_eq!(rt; fault_of(rt.alloc(), ""), fault(MissingKey, 0));
+    Ok(())
+}
+
+#[test]
+fn the_first_of_two_faults(rt: HostRuntime) {
+    let rows = [
+        ("zone = 1\n[format]\ndecimals = 7\n", UnknownKey, 0),
+        ("[format]\ndecimals = 7\n[zone]\n", UnknownKey, 0),
+        ("speed = 1\n[format]\ndecimals = 7\n", OutOfLimit, 0),
+        ("[format]\ndecimals = 7\n[speed]\n", OutOfLimit, 0),
+        (
+            "speed = [1]\n[format]\ndecimals = 0\n[[trust]]\n",
+            WrongKind,
+            0,
+        ),
+        ("[format]\ndecimals = 0\n[[trust]]\n[range]\n", WrongKind, 0),
+        (
+            "[format]\ndecimals = 0\n[[range]]\n[[swing]]\nmost = -1\n",
+            MissingKey,
+            1,
+        ),
+        (
+            "[format]\ndecimals = 0\n[[range]]\nzone = 1\n[[swing]]\n",
+            MissingKey,
+            1,
+        ),
+        (
+            "[format]\ndecimals = 0\n[[range]]\n[[range]]\nzone = 1\n",
+            MissingKey,
+            1,
+        ),
+        (
+            "[format]\ndecimals = 0\n[[range]]\nzone = 1\n[[range]]\n",
+            UnknownKey,
+            1,
+        ),
+    ];
+    for (text, cause, rule) in rows {
+        assert_eq!(rt; fault_of(rt.alloc(), text), fault(cause, rule), "{text}");
+    }
+}
+
+#[test]
+fn a_thousand_rules_and_no_more(rt: HostRuntime) -> Result<(), Fail> {
+    let mut text = String::from_str(rt.alloc(), "[format]\ndecimals = 0\n")?;
+    for _rule in 0..1000 {
+        text.push_str("[[trust]]\nsensor = \"x\"\n")?;
+    }
+    assert_eq!(rt; read_rules(rt.alloc(), text.as_bytes())?.count(), 1000);
+    text.push_str("[[range]]\n")?;
+    assert_eq!(rt; fault_of(rt.alloc(), text.as_str()), fault(TooMany, 0));
+    Ok(())
+}
+
+#[test]
+fn a_file_of_the_greatest_length(rt: HostRuntime) -> Result<(), Fail> {
+    let mut bytes = BASE.as_bytes().to_vec(rt.alloc())?;
+    bytes.resize(1_048_576, b'\n')?;
+    assert_eq!(rt; read_rules(rt.alloc(), bytes.as_slice())?.count(), 1);
+    bytes.push(b'\n')?;
+    assert_eq!(rt;
+        read_rules(rt.alloc(), bytes.as_slice()).err(),
+        fault(FileTooLong, 0)
+    );
+    Ok(())
+}
