@@ -16,7 +16,7 @@ pub(crate) struct Labels {
     pub(crate) ranks: Vec<u64>,
 }
 
-/// Takes the parents of all nodes away, with their ranks.
+/// Takes their parents from all nodes, and ranks them alike.
 pub(crate) fn forget(labels: &mut Labels)
     ensures distances { labels.new.distances.items ≡ labels.old.distances.items }
     ensures parents { labels.new.parents.items ≡ replicate (length labels.old.parents.items) None }
@@ -26,8 +26,8 @@ pub(crate) fn forget(labels: &mut Labels)
     labels.ranks.fill(0);
 }
 
-/// Lowers the head of an arc to the arc's sum, if the arc is there and not kept; the head then has this rank.
-/// Answers whether it was lowered.
+/// Lowers the head of an arc to the distance of its tail and its cost together, if the arc is there and not kept. The
+/// arc's tail is then the parent of the head, which has this rank. Answers whether the head was lowered.
 pub(crate) fn relax<A: ArcList>(arcs: &A, i: u32, rank: u64, labels: &mut Labels) -> bool
     requires nodes { length labels.old.distances.items ≡ A.node_count arcs.now }
     requires rank { rank < 2 ^ 34 }

@@ -8,7 +8,7 @@ use std::marker::Model;
 
 /// A distance for each node, and a cycle of arcs where one was found.
 ///
-/// All memory is taken when the room is made.
+/// All memory is taken when the room is made: 44 bytes for each node.
 #[derive(Drop)]
 pub struct Room {
     pub(crate) labels: Labels,
