@@ -2,7 +2,7 @@ use crate::RuleCause::{
     BadNumber, FileTooLong, MissingKey, Order, OutOfLimit, ReachTooLarge, SameSensor, Syntax,
     TooMany, UnknownKey, WrongKind,
 };
-use crate::{RuleCause, RuleFault, read_rules};
+use crate::{RuleCause, RuleFault, Rules, read_rules};
 use fix_point::Extra;
 use std::alloc::{AllocError, Global};
 use std::test::Fail;
@@ -99,88 +99,105 @@ fn changed(alloc: Global, text: &str, part: &str, other: &str) -> Result<String,
     }
 }
 
+/// The sensor, the rates and the window of a speed rule.
+fn speed_at(rules: &Rules, place: usize) -> Option<(&[u8], i64, i64, u32, i64)> {
+    let rule = rules.speeds.get(place)?;
+    let (min, max) = (rule.min, rule.max);
+    Some((
+        rule.sensor.bytes(),
+        min.millionths,
+        max.millionths,
+        min.per,
+        rule.window,
+    ))
+}
+
+/// The rates and the times of a drift rule.
+fn drift_at(rules: &Rules, place: usize) -> Option<(i64, i64, u32, i64, i64)> {
+    let rule = rules.drifts.get(place)?;
+    let (min, max) = (rule.min, rule.max);
+    Some((
+        min.millionths,
+        max.millionths,
+        max.per,
+        rule.over,
+        rule.window,
+    ))
+}
+
+/// The sensor, the values and the period of a range rule.
+fn range_at(rules: &Rules, place: usize) -> Option<(&[u8], i64, i64, i64, i64)> {
+    let rule = rules.ranges.get(place)?;
+    Some((rule.sensor.bytes(), rule.min, rule.max, rule.from, rule.to))
+}
+
+/// The sensor and the period of a trust rule.
+fn trust_at(rules: &Rules, place: usize) -> Option<(&[u8], i64, i64)> {
+    let rule = rules.trusts.get(place)?;
+    Some((rule.sensor.bytes(), rule.from, rule.to))
+}
+
+/// The weight and the period of a weight rule.
+fn weight_at(rules: &Rules, place: usize) -> Option<(u32, i64, i64)> {
+    let rule = rules.weights.get(place)?;
+    Some((rule.weight, rule.from, rule.to))
+}
+
+/// The sensors and the limits of a between rule.
+fn between_at(rules: &Rules, place: usize) -> Option<(&[u8], &[u8], i64, i64)> {
+    let rule = rules.betweens.get(place)?;
+    Some((rule.first.bytes(), rule.second.bytes(), rule.min, rule.max))
+}
+
 #[test]
 fn a_speed_rule(rt: HostRuntime) -> Result<(), Fail> {
     let rules = read_rules(rt.alloc(), BASE.as_bytes())?;
+    let speed = (b"x".as_slice(), -1_000_000, 1_000_000, 1, 10_000_000_000);
+    assert_eq!(rt; speed_at(&rules, 0), Some(speed));
     assert_eq!(rt; rules.count(), 1);
-    assert_eq!(rt; rules.format.decimals, 0);
-    assert!(rt; rules.format.time.is_none());
-    assert!(rt; rules.format.form == TimeForm::Sec);
-    assert_eq!(rt; rules.format.separator, b',');
-    assert_eq!(rt; rules.format.extra, Extra::Refuse);
-    assert_eq!(rt; rules.format.hold, 4096);
-    for speed in rules.speeds.as_slice() {
-        assert_eq!(rt; speed.sensor.bytes(), b"x".as_slice());
-        assert_eq!(rt; (speed.min.millionths, speed.min.per), (-1_000_000, 1));
-        assert_eq!(rt; (speed.max.millionths, speed.max.per), (1_000_000, 1));
-        assert_eq!(rt; speed.window, 10_000_000_000);
-    }
+    let format = &rules.format;
+    assert!(rt; format.time.is_none() && format.form == TimeForm::Sec);
+    assert_eq!(rt;
+        (format.separator, format.extra, format.hold),
+        (b',', Extra::Refuse, 4096)
+    );
     Ok(())
 }
 
 #[test]
 fn rules_of_a_tank(rt: HostRuntime) -> Result<(), Fail> {
     let rules = read_rules(rt.alloc(), FUEL.as_bytes())?;
-    assert_eq!(rt; rules.count(), 2);
-    assert_eq!(rt; rules.format.decimals, 2);
-    assert!(rt; rules.format.form == TimeForm::Instant);
+    let speed = (b"fuel".as_slice(), -50_000, 50_000, 1, 60_000_000_000);
+    assert_eq!(rt; speed_at(&rules, 0), Some(speed));
     assert_eq!(rt;
-        rules.format.time.as_ref().map(|name| name.bytes()),
-        Some(b"time".as_slice())
+        range_at(&rules, 0),
+        Some((b"fuel".as_slice(), 0, 12_000, -LAST, LAST))
     );
-    let speed = rules.speeds.get(0).expect(&rt, "a speed rule");
-    assert_eq!(rt; speed.sensor.bytes(), b"fuel".as_slice());
-    assert_eq!(rt;
-        (speed.min.millionths, speed.max.millionths),
-        (-50_000, 50_000)
-    );
-    assert_eq!(rt; speed.window, 60_000_000_000);
-    let range = rules.ranges.get(0).expect(&rt, "a range rule");
-    assert_eq!(rt; range.sensor.bytes(), b"fuel".as_slice());
-    assert_eq!(rt; (range.min, range.max), (0, 12_000));
-    assert_eq!(rt; (range.from, range.to), (-LAST, LAST));
+    let format = &rules.format;
+    assert_eq!(rt; (format.decimals, format.form), (2, TimeForm::Instant));
+    assert!(rt; matches!(&format.time, Some(name) if name.bytes() == b"time".as_slice()));
     Ok(())
 }
 
 #[test]
-fn rates_and_differences_of_all_kinds(rt: HostRuntime) -> Result<(), Fail> {
+fn rules_of_all_kinds(rt: HostRuntime) -> Result<(), Fail> {
     let rules = read_rules(rt.alloc(), MIXED.as_bytes())?;
     assert_eq!(rt; rules.count(), 8);
-    assert_eq!(rt; rules.format.separator, b';');
-    assert_eq!(rt; rules.format.extra, Extra::Round);
-    assert_eq!(rt; rules.format.hold, 20_000);
-    let first = rules.speeds.get(0).expect(&rt, "a speed rule");
-    let second = rules.speeds.get(1).expect(&rt, "another speed rule");
-    assert_eq!(rt; first.sensor.bytes(), b"a".as_slice());
-    assert_eq!(rt; second.sensor.bytes(), b"c".as_slice());
-    let swing = rules.swings.get(0).expect(&rt, "a swing rule");
-    assert_eq!(rt; (swing.most, swing.window), (15, 2_000_000_000));
-    let drift = rules.drifts.get(0).expect(&rt, "a drift rule");
-    let (least, greatest) = (-2_000_000, 2_000_000);
-    assert_eq!(rt; (drift.min.millionths, drift.min.per), (least, 3600));
-    assert_eq!(rt; (drift.max.millionths, drift.max.per), (greatest, 3600));
+    let second = (b"c".as_slice(), 0, 1_000_000, 1, 1_000_000_000);
+    assert_eq!(rt; speed_at(&rules, 1), Some(second));
+    let swing = rules.swings.get(0).map(|rule| (rule.most, rule.window));
+    assert_eq!(rt; swing, Some((15, 2_000_000_000)));
+    let drift = (-2_000_000, 2_000_000, 3600, 60_000_000_000, 600_000_000_000);
+    assert_eq!(rt; drift_at(&rules, 0), Some(drift));
     assert_eq!(rt;
-        (drift.over, drift.window),
-        (60_000_000_000, 600_000_000_000)
+        range_at(&rules, 0),
+        Some((b"b".as_slice(), -MOST, MOST, -LAST, LAST))
     );
-    Ok(())
-}
-
-#[test]
-fn limits_and_periods_of_all_kinds(rt: HostRuntime) -> Result<(), Fail> {
-    let rules = read_rules(rt.alloc(), MIXED.as_bytes())?;
-    let range = rules.ranges.get(0).expect(&rt, "a range rule");
-    assert_eq!(rt; (range.min, range.max), (-MOST, MOST));
-    let trust = rules.trusts.get(0).expect(&rt, "a trust rule");
-    assert_eq!(rt; trust.sensor.bytes(), b"a".as_slice());
-    assert_eq!(rt; (trust.from, trust.to), (5_000_000_000, 9_000_000_000));
-    let weight = rules.weights.get(0).expect(&rt, "a weight rule");
-    assert_eq!(rt; weight.weight, 3);
-    assert_eq!(rt; (weight.from, weight.to), (-LAST, LAST));
-    let between = rules.betweens.get(0).expect(&rt, "a between rule");
-    assert_eq!(rt; between.first.bytes(), b"a".as_slice());
-    assert_eq!(rt; between.second.bytes(), b"b".as_slice());
-    assert_eq!(rt; (between.min, between.max), (-10, 10));
+    let trust = (b"a".as_slice(), 5_000_000_000, 9_000_000_000);
+    assert_eq!(rt; trust_at(&rules, 0), Some(trust));
+    assert_eq!(rt; weight_at(&rules, 0), Some((3, -LAST, LAST)));
+    let between = (b"a".as_slice(), b"b".as_slice(), -10, 10);
+    assert_eq!(rt; between_at(&rules, 0), Some(between));
     Ok(())
 }
 

@@ -227,7 +227,11 @@ fn the_numbers_of_spans(rt: HostRuntime) -> Result<(), AllocError> {
                 Err(BadNumber),
             ),
         ],
-    )?;
+    )
+}
+
+#[test]
+fn the_least_time_of_a_drift(rt: HostRuntime) -> Result<(), AllocError> {
     assert_rows(
         &rt,
         rt.alloc(),
@@ -317,35 +321,27 @@ fn the_numbers_of_swings_and_weights(rt: HostRuntime) -> Result<(), AllocError> 
 }
 
 #[test]
-fn times_in_each_form(rt: HostRuntime) -> Result<(), AllocError> {
-    assert_rows(
-        &rt,
-        rt.alloc(),
-        in_form(TimeForm::Sec),
-        TableKind::Trust,
-        &[(ALL_TIME, "from = 7", From, Ok(7_000_000_000))],
-    )?;
-    assert_rows(
-        &rt,
-        rt.alloc(),
-        in_form(TimeForm::Milli),
-        TableKind::Trust,
-        &[(ALL_TIME, "from = 7", From, Ok(7_000_000))],
-    )?;
-    assert_rows(
-        &rt,
-        rt.alloc(),
-        in_form(TimeForm::Micro),
-        TableKind::Trust,
-        &[(ALL_TIME, "from = 7", From, Ok(7_000))],
-    )?;
-    assert_rows(
-        &rt,
-        rt.alloc(),
-        in_form(TimeForm::Nano),
-        TableKind::Trust,
-        &[(ALL_TIME, "from = -7", From, Ok(-7))],
-    )?;
+fn times_in_each_form_of_numbers(rt: HostRuntime) -> Result<(), AllocError> {
+    let forms = [
+        (TimeForm::Sec, 7_000_000_000),
+        (TimeForm::Milli, 7_000_000),
+        (TimeForm::Micro, 7_000),
+        (TimeForm::Nano, 7),
+    ];
+    for (form, ticks) in forms {
+        assert_rows(
+            &rt,
+            rt.alloc(),
+            in_form(form),
+            TableKind::Trust,
+            &[(ALL_TIME, "from = 7", From, Ok(ticks))],
+        )?;
+    }
+    Ok(())
+}
+
+#[test]
+fn times_in_each_form_of_dates(rt: HostRuntime) -> Result<(), AllocError> {
     assert_rows(
         &rt,
         rt.alloc(),
@@ -406,7 +402,11 @@ fn the_reach_of_a_rate(rt: HostRuntime) -> Result<(), AllocError> {
                 Err(ReachTooLarge),
             ),
         ],
-    )?;
+    )
+}
+
+#[test]
+fn the_reach_of_a_rate_in_the_finest_units(rt: HostRuntime) -> Result<(), AllocError> {
     assert_rows(
         &rt,
         rt.alloc(),
