@@ -1,5 +1,5 @@
 -- What was read to the end is all that was there.
-use Rattle.std.proofs.Common.{◌≡◌, ℕ, List, [], ◌++◌, ap, sym, ◌∙◌, subst, Option, None, Some, Result, Ok, Err, MatchResult}
+use Rattle.std.proofs.Common.{◌≡◌, ℕ, List, [], ◌++◌, ap, sym, ◌∙◌, subst, Option, Some, Result, Ok, Err, MatchResult}
 use Rattle.std.proofs.lemmas.List.{append-nil}
 use Rattle.screen_io.specs.Source.{Takes, IsAtEnd}
 use Rattle.screen_tool.specs.declared.speed.WholeSpeed.{WholeSpeed}

@@ -1,5 +1,5 @@
 -- The rules that the program works with so far.
-use Rattle.std.specs.Prelude.{◌≡◌, ◌⊎◌, ℕ, ◌*◌, ◌^◌, ℤ, pos, ◌*ℤ◌, List, [], ◌∷◌, Option, Some, None, codes}
+use Rattle.std.specs.Prelude.{◌≡◌, ◌⊎◌, ℕ, ◌*◌, ◌^◌, pos, ◌*ℤ◌, List, [], ◌∷◌, Option, Some, None, codes}
 use Rattle.time_text.specs.declared.form.TimeForm.TheVariants.{Sec}
 use Rattle.rule_keys.specs.declared.cause.RuleCause.TheVariants.{NotBuilt}
 use Rattle.rule_file.specs.declared.fault.RuleFault.{RuleFault}

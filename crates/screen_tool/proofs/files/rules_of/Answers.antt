@@ -1,5 +1,5 @@
 use Rattle.std.proofs.Common.{◌≢◌, inl, inr, rules}
-use Rattle.rule_keys.specs.declared.cause.RuleCause.TheVariants.{NotBuilt, Memory}
+use Rattle.rule_keys.specs.declared.cause.RuleCause.TheVariants.{Memory}
 use Rattle.screen_tool.specs.declared.speed.WholeSpeed.{WholeSpeed}
 use Rattle.screen_tool.specs.Narrow.{IsNarrow}
 use Rattle.screen_tool.proofs.files.rules_of.Goals as goal
