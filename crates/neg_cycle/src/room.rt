@@ -30,7 +30,7 @@ impl Model for Room {
 }
 
 impl Room {
-    /// Room for this many nodes: the distance 0 at every node, and no cycle.
+    /// Takes the room for so many nodes. All distances are 0 at first, and there is no cycle.
     pub fn for_nodes(alloc: Global, nodes: u32) -> Result<Room, AllocError>
         ensures { IfOk result (λ room. room ≡ record { distances = replicate nodes (pos 0); cycle = [] }) }
     {
@@ -47,7 +47,7 @@ impl Room {
         })
     }
 
-    /// Sets the distance that a node starts with, and changes no other.
+    /// Lets a node start at this distance. All others stay.
     pub fn start(&mut self, node: u32, value: i64)
         requires node { node < length self.old.distances }
         requires size { unsigned_abs value ≤ 4 * 10 ^ 15 }

@@ -135,6 +135,10 @@ fn a_cycle_with_the_sum_0_and_an_arc_that_is_not_there_are_obeyed(
     assert_eq!(rt; outcome, Settled::Greatest);
     assert_eq!(rt; distances.as_slice(), [0, 1].as_slice());
     assert_eq!(rt; cycle.len(), 0);
+    let table = Table::of(rt.alloc(), 2, &[(0, 1, 1), (1, 0, -1)])?;
+    let (outcome, distances, _) = settled(rt.alloc(), &table, &[0, 10])?;
+    assert_eq!(rt; outcome, Settled::Greatest);
+    assert_eq!(rt; distances.as_slice(), [0, 1].as_slice());
     Ok(())
 }
 

@@ -16,8 +16,8 @@ pub record IsBest (problem : Problem) (series : List ℤ) (flow : List Stream) :
   pub admissible : IsAdmissible problem flow
   pub equal : dual_value problem flow ≡ pos (cost problem series)
 
--- A cycle of bounds without prices: each one's second end is the next one's first, the last one's the first
--- one's; no end is the first of two; and the limits have a negative sum.
+-- Bounds that may not be broken, in a ring: where one ends the next begins, no two begin at the same end, and
+-- round the ring the limits add up to less than 0.
 pub record IsBlocked (bounds cycle : List Priced) : Type 0 where
   pub some : 1 ≤ length cycle
   pub members : AllByRecursion (Contains bounds) cycle

@@ -24,8 +24,8 @@ is_at p (At q) = is_same_place p q
 abbrev pub amount_at : Place → End → ℕ → ℤ
 amount_at p end amount = if is_at p end then pos amount else pos 0
 
--- The pull of a reading: what flows on bounds of which it is the first end, less what flows on those of
--- which it is the second.
+-- How a flow pulls at a reading: what leaves it, on bounds that begin there, less what enters it, on bounds that
+-- end there.
 abbrev pub pull : List Stream → Place → ℤ
 pull flow p = total (map (λ stream. amount_at p stream.on.bound.first stream.amount -ℤ amount_at p stream.on.bound.second stream.amount) flow)
 
@@ -62,7 +62,8 @@ pulled flow (p ∷ places) (value ∷ values) = (pull flow p *ℤ value) +ℤ pu
 pulled flow [] values = pos 0
 pulled flow (p ∷ places) [] = pos 0
 
--- The dual value of a flow: minus the sum of amount times limit, less the sum of pull times value.
+-- What a flow is worth as a bound on costs: each amount counts against the limit that it flows on, and each pull
+-- against the value that was read.
 abbrev pub dual_value : Problem → List Stream → ℤ
 dual_value problem flow =
     neg_ℤ (total (map (λ stream. pos stream.amount *ℤ stream.on.bound.limit) flow)) -ℤ pulled flow problem.places problem.values
