@@ -1,4 +1,5 @@
 pub mod Numbers
+pub mod Only
 pub mod Pieces
 pub mod Rates
 pub mod Reading

@@ -1,5 +1,5 @@
 -- The number of a text, times a power of ten, as a whole number.
-use Rattle.std.specs.Prelude.{◌≡◌, ℕ, ◌+◌, ◌*◌, ◌^◌, ◌<◌, ◌≤◌, ℤ, pos, neg_ℤ, List, length, unsigned_abs}
+use Rattle.std.specs.Prelude.{◌≡◌, ℕ, ◌+◌, ◌*◌, ◌^◌, ◌<◌, ◌≤◌, ℤ, pos, neg_ℤ, List, length, Result, Ok, Err, unsigned_abs}
 use Rattle.std.specs.Str.Parse.{digits_value}
 use Rattle.fix_point.specs.Grammar.{Parts, Sign, none, plus, minus, Exponent, no_exponent, exponent, fraction_digits, mantissa_digits, IsNumberText}
 use Rattle.fix_point.specs.declared.scale.NumFault.{NumFault}
@@ -64,3 +64,8 @@ Refuses text d extra most TooFine =
     (parts : Parts) × IsNumberText text parts × (extra ≡ Refuse) × ((size : ℕ) → ¬ IsExact parts d size)
 Refuses text d extra most OutOfRange =
     (parts : Parts) × IsNumberText text parts × (size : ℕ) × IsTaken extra parts d size × (unsigned_abs most < size)
+
+-- the one or the other
+abbrev pub IsAnswer : List ℕ → ℕ → Extra → ℤ → Result ℤ NumFault → Type 0
+IsAnswer text d extra most (Ok value) = IsScaled text d extra most value
+IsAnswer text d extra most (Err fault) = Refuses text d extra most fault

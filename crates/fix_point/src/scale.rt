@@ -1,6 +1,6 @@
-ghost use Rattle.std.specs.Prelude.{◌≡◌, ◌*◌, ◌^◌, ◌<◌, ◌≤◌, ℕ, ℤ, pos, ◌≤ℤ◌, List, IfOk, IfErr};
+ghost use Rattle.std.specs.Prelude.{◌≡◌, ◌*◌, ◌^◌, ◌<◌, ◌≤◌, ℕ, ℤ, pos, ◌≤ℤ◌, List, Result, IfOk, IfErr};
 ghost use Rattle.fix_point.specs.Grammar.{Parts, IsNumberText};
-ghost use Rattle.fix_point.specs.Scaled.{IsScaled, Refuses};
+ghost use Rattle.fix_point.specs.Scaled.{IsScaled, Refuses, IsAnswer};
 ghost use Rattle.fix_point.specs.Reading.{signed_by};
 
 use crate::number::{Number, Tens, number_of};
@@ -78,6 +78,11 @@ pub fn units(text: &[u8], d: u32, extra: Extra) -> Result<i64, NumFault>
 /// A text is a number in one way only.
 pub fn one_value()
     ensures { (text : List ℕ) (one other : Parts) → IsNumberText text one → IsNumberText text other → one ≡ other }
+{}
+
+/// A text has one answer only: one value, or one refusal.
+pub fn one_answer()
+    ensures { (text : List ℕ) (d : ℕ) (extra : Extra) (most : ℤ) (one other : Result ℤ NumFault) → IsAnswer text d extra most one → IsAnswer text d extra most other → one ≡ other }
 {}
 
 /// A number of this size, below 0 where it is negative.

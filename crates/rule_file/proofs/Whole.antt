@@ -1,14 +1,14 @@
 -- What a whole file is read as, from what its table is read as.
-use Rattle.std.proofs.Common.{◌≡◌, ◌≢◌, ℕ, ◌≤◌, List, length, Some, None, inr, subst}
-use Rattle.std.specs.Prelude.{Result, Ok, Err, IfErr}
+use Rattle.std.proofs.Common.{◌≡◌, ℕ, ◌≤◌, List, length, Some, None, inr, subst}
+use Rattle.std.specs.Prelude.{Result, Ok, Err}
 use Rattle.toml.specs.Data.{Data, string, integer, float, boolean, datetime, array, table, Members, get_member, as_table}
-use Rattle.rule_keys.specs.declared.cause.RuleCause.TheVariants.{MissingKey, WrongKind, Memory}
+use Rattle.rule_keys.specs.declared.cause.RuleCause.TheVariants.{MissingKey, WrongKind}
 use Rattle.rule_keys.specs.declared.key.TableKind.TheVariants.{Format}
 use Rattle.rule_keys.specs.Reading.{HasOnly}
 use Rattle.rule_file.specs.declared.fault.RuleFault.{RuleFault}
 use Rattle.rule_file.specs.declared.rules.Rules.{Rules}
 use Rattle.rule_file.specs.Document.{kind_text, table_texts, of_the_file, ReadsFormat, ReadsWith, ReadsDocument}
-use Rattle.rule_file.specs.Reading.{longest, Refuses}
+use Rattle.rule_file.specs.Reading.{longest, ReadsFile}
 use Rattle.rule_file.specs.Told.{Tells}
 use Rattle.rule_file.specs.Toml.{IsToml}
 
@@ -45,7 +45,7 @@ pub a_table : (file : Members) (d : Data) (format : Members) (answer : Result Ru
 a_table file d format (Ok rules) known there is told = inr (known, rw there (right_format file d format (Ok rules) is told))
 a_table file d format (Err fault) known there is told = λ other. inr (known, rw there (right_format file d format (Err fault) is (told other)))
 
-pub file_refused : (bytes : List ℕ) (file : Members) (answer : Result Rules RuleFault) → length bytes ≤ longest → IsToml bytes file
-    → Tells (ReadsDocument file) answer → IfErr answer (λ fault. fault.cause ≢ Memory → Refuses bytes fault)
-file_refused bytes file (Ok rules) short is told = tt
-file_refused bytes file (Err fault) short is told = λ other. inr (short, inr (file, is, told other))
+pub file_told : (bytes : List ℕ) (file : Members) (answer : Result Rules RuleFault) → length bytes ≤ longest → IsToml bytes file
+    → Tells (ReadsDocument file) answer → Tells (ReadsFile bytes) answer
+file_told bytes file (Ok rules) short is told = inr (short, inr (file, is, told))
+file_told bytes file (Err fault) short is told = λ other. inr (short, inr (file, is, told other))

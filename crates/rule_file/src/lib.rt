@@ -17,7 +17,7 @@ mod tests;
 mod typed;
 
 pub use fault::RuleFault;
-pub use read::{LONGEST, read_rules};
+pub use read::{LONGEST, one_answer, read_rules};
 pub use rule_keys::RuleCause;
 pub use rules::{
     BetweenList, BetweenRule, DriftList, DriftRule, Format, Name, RangeList, RangeRule, Rules,

@@ -1,6 +1,7 @@
 //! The bytes of a rule file.
-ghost use Rattle.std.specs.Prelude.{◌≢◌, IfOk, IfErr};
-ghost use Rattle.rule_file.specs.Reading.{Spells, Refuses};
+ghost use Rattle.std.specs.Prelude.{◌≡◌, ◌≢◌, List, ℕ, Result, IfOk, IfErr};
+ghost use Rattle.rule_file.specs.Reading.{ReadsFile, Spells, Refuses};
+ghost use Rattle.rule_file.specs.Told.{Tells};
 
 use crate::document::document_rules;
 use crate::fault::{RuleFault, of_the_file};
@@ -25,6 +26,16 @@ pub const LONGEST: usize = 1_048_576;
 pub fn read_rules(alloc: Global, bytes: &[u8]) -> Result<Rules, RuleFault>
     ensures accepted { IfOk result (Spells bytes.now) }
     ensures refused { IfErr result (λ fault. fault.cause ≢ RuleCause.Memory → Refuses bytes.now fault) }
+    ensures only { (answer : Result Rules RuleFault) → ReadsFile bytes.now answer → Tells (λ given. given ≡ answer) result }
+{
+    // The law behind `only`; it does nothing.
+    one_answer();
+    file_rules(alloc, bytes)
+}
+
+/// What the bytes are read as.
+fn file_rules(alloc: Global, bytes: &[u8]) -> Result<Rules, RuleFault>
+    ensures { Tells (ReadsFile bytes.now) result }
 {
     if bytes.len() > LONGEST {
         return Err(of_the_file(RuleCause::FileTooLong));
@@ -34,4 +45,11 @@ pub fn read_rules(alloc: Global, bytes: &[u8]) -> Result<Rules, RuleFault>
         Err(fault) if fault.is_memory() => Err(of_the_file(RuleCause::Memory)),
         Err(_) => Err(of_the_file(RuleCause::Syntax)),
     }
+}
+
+/// A rule file has one answer only: its rules, or its first fault.
+pub fn one_answer()
+    ensures { (bytes : List ℕ) (one other : Result Rules RuleFault) → ReadsFile bytes one → ReadsFile bytes other → one ≡ other }
+{
+    rule_keys::one_answer();
 }

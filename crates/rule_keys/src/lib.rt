@@ -15,4 +15,4 @@ mod words;
 pub use cause::RuleCause;
 pub use entries::Entries;
 pub use key::{Absent, Check, Choice, Key, KeyName, Kind, TableKind};
-pub use read::{Scale, read_table};
+pub use read::{Scale, one_answer, read_table};

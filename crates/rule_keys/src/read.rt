@@ -1,10 +1,11 @@
 //! A table of a rule file, read by the description of its keys.
-ghost use Rattle.std.specs.Prelude.{◌≡◌, ◌≤◌, ◌↔◌, map, length, string_bytes, IsTrue, Contains, IfOk, IfErr};
+ghost use Rattle.std.specs.Prelude.{◌≡◌, ◌≤◌, ◌↔◌, ◌*◌, List, Result, map, length, string_bytes, IsTrue, Contains, IfOk, IfErr};
 ghost use Rattle.std.specs.List.{list_all};
 ghost use Rattle.std.specs.Map.{keys_of as keys_of_map};
 ghost use Rattle.std.specs.Str.{bytes_eq};
+ghost use Rattle.toml.specs.Data.{Members};
 ghost use Rattle.toml.specs.View.{table_view};
-ghost use Rattle.rule_keys.specs.Entries.{Fit};
+ghost use Rattle.rule_keys.specs.Entries.{Fit, Meaning};
 ghost use Rattle.rule_keys.specs.Keys.{keys_of};
 ghost use Rattle.rule_keys.specs.Known.{is_known};
 ghost use Rattle.rule_keys.specs.Reading.{HasOnly, Reads, ReadsAbsent, ReadsKey, ReadsKeys, Told};
@@ -63,6 +64,14 @@ pub fn read_table<'a>(
         Some(cause) => Err(cause),
         None => Ok(entries),
     }
+}
+
+/// A table has one answer only: its entries, or one cause to refuse it.
+pub fn one_answer()
+    ensures { (scale : Scale) (kind : TableKind) (given : Members) (one other : Result (List (KeyName × Meaning)) RuleCause) → Reads scale kind given one → Reads scale kind given other → one ≡ other }
+{
+    fix_point::one_answer();
+    time_text::one_answer();
 }
 
 /// Whether each key of the table is one of these.

@@ -1,5 +1,5 @@
 -- The ticks of a time text, and why a text has none. A tick is a nanosecond.
-use Rattle.std.specs.Prelude.{ℕ, ◌*◌, ◌^◌, ◌<◌, ◌≤◌, ◌⊎◌, ℤ, pos, List, length, unsigned_abs, IsUtf8}
+use Rattle.std.specs.Prelude.{◌≢◌, ℕ, ◌*◌, ◌^◌, ◌<◌, ◌≤◌, ◌⊎◌, ℤ, pos, List, length, Result, Ok, Err, unsigned_abs, IsUtf8}
 use Rattle.fix_point.specs.Scaled.{IsScaled}
 use Rattle.fix_point.specs.Scaled as Scaled
 use Rattle.fix_point.specs.declared.scale.NumFault.TheVariants as NumFault
@@ -73,3 +73,8 @@ IsTicks form text ticks = IsTrimmedTicks form (trimmed text) ticks
 -- why it stands for none
 abbrev pub Refuses : TimeForm → List ℕ → TimeFault → Type 0
 Refuses form text fault = RefusesTrimmed form (trimmed text) fault
+
+-- the one or the other; want of memory is no reason that a text has
+abbrev pub IsAnswer : TimeForm → List ℕ → Result ℤ TimeFault → Type 0
+IsAnswer form text (Ok ticks) = IsTicks form text ticks
+IsAnswer form text (Err fault) = (fault ≢ Memory) × Refuses form text fault

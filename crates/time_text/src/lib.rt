@@ -9,7 +9,7 @@ mod read;
 mod trim;
 
 pub use form::{TimeFault, TimeForm};
-pub use read::ticks;
+pub use read::{one_answer, ticks};
 pub use trim::trimmed_text;
 
 #[cfg(test)]

@@ -1,5 +1,5 @@
-ghost use Rattle.std.specs.Prelude.{IfOk, IfErr, IsErrOf};
-ghost use Rattle.time_text.specs.Ticks.{IsTicks, Refuses};
+ghost use Rattle.std.specs.Prelude.{◌≡◌, ℕ, ℤ, List, Result, IfOk, IfErr, IsErrOf};
+ghost use Rattle.time_text.specs.Ticks.{IsTicks, Refuses, IsAnswer};
 
 use crate::calendar::{civil_ticks, instant_ticks};
 use crate::form::{TimeFault, TimeForm};
@@ -43,4 +43,11 @@ pub fn ticks(alloc: Global, form: TimeForm, text: &[u8]) -> Result<i64, TimeFaul
         TimeForm::Instant => instant_ticks(text),
         TimeForm::Civil => civil_ticks(text),
     }
+}
+
+/// A text has one answer only: one number of ticks, or one reason why it has none.
+pub fn one_answer()
+    ensures { (form : TimeForm) (text : List ℕ) (one other : Result ℤ TimeFault) → IsAnswer form text one → IsAnswer form text other → one ≡ other }
+{
+    fix_point::one_answer();
 }

@@ -1,9 +1,5 @@
-use Rattle.toml.specs.View.{table_view}
-use Rattle.rule_file.specs.Toml.{IsToml}
-use Rattle.rule_file.proofs.Whole.{file_refused}
+use Rattle.rule_file.proofs.OneFile.{only_that}
 use Rattle.rule_file.proofs.read.read_rules.Goals as goal
 
-pub returns-in-Ok-clause-refused : goal.returns-in-Ok-clause-refused
-returns-in-Ok-clause-refused c =
-    let is : IsToml c.args.bytes.now (table_view c.in-Ok.file) = record { text = c.in-Ok.ensures.ok.0; parsed = c.in-Ok.ensures.ok.1 } in
-    file_refused c.args.bytes.now (table_view c.in-Ok.file) _ c.if-bytes-gt-LONGEST.false is c.document_rules.ensures
+pub returns-clause-only : goal.returns-clause-only
+returns-clause-only c = only_that c.args.bytes.now c.one_answer.ensures c.file_rules.result c.file_rules.ensures
