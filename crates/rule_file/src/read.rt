@@ -14,8 +14,8 @@ pub const LONGEST: usize = 1_048_576;
 
 /// The rules of a rule file, or the first reason to refuse it.
 ///
-/// Which texts are TOML, and which table each gives, is for the crate `toml` to say. Besides the rules, it takes
-/// memory for the table of the file, and gives that back.
+/// The text is read as TOML by the crate `toml`. Besides the rules, it takes memory for the table of the file, and
+/// gives that back.
 ///
 /// # Errors
 ///

@@ -18,7 +18,7 @@ use std::alloc::{AllocError, Global};
 /// The certificate of readings that need no repair.
 const UNCHANGED_CERT: &[u8] = b"screen-cert 1\nclaim repair\ntotal 0\nend\n";
 
-/// The command `global`. All texts are made before the first byte is written.
+/// The command `global`. It writes nothing until both of its texts are made.
 pub(crate) fn global<S: Source, K: Sink>(
     alloc: Global,
     ins: &mut Inputs<S>,

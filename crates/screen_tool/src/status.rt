@@ -8,7 +8,7 @@ use std::alloc::AllocError;
 /// How a run ended, as its exit status tells it.
 #[derive(Clone, Copy, Debug, PartialEq, Eq)]
 pub enum Status {
-    /// 0: the command's text was written to its end.
+    /// 0: all that the command writes is written.
     Done,
     /// 2: the words are no form of a command.
     Usage,
@@ -47,7 +47,7 @@ impl Status {
 /// How a run ended, with what was refused.
 #[derive(Clone, Copy, Debug, PartialEq, Eq)]
 pub enum Ending {
-    /// The command's text was written to its end.
+    /// All that the command writes is written.
     Done,
     /// The words are no form of a command.
     Usage,
