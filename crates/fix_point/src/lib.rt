@@ -11,5 +11,5 @@ mod tests;
 mod text;
 
 pub use rate::{Rate, ceil_rate, floor_rate, steps_add_up};
-pub use scale::{Extra, NumFault, one_answer, one_value, scaled, units};
+pub use scale::{Extra, MOST_UNITS, NumFault, one_answer, one_value, scaled, units};
 pub use text::{text_of, texts_are_read_back};

@@ -8,7 +8,7 @@ use crate::size::size_of;
 use thiserror::Error;
 
 /// The greatest size of a number of units, 10^15.
-const MOST_UNITS: i64 = 1_000_000_000_000_000;
+pub const MOST_UNITS: i64 = 1_000_000_000_000_000;
 
 /// What is done with a number that has more decimals than are kept.
 #[derive(Clone, Copy, Debug, PartialEq, Eq)]

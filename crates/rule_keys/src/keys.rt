@@ -4,12 +4,8 @@ ghost use Rattle.std.specs.Prelude.{◌≡◌};
 ghost use Rattle.rule_keys.specs.Keys.{checks_of, keys_of};
 
 use crate::key::{Absent, Check, Choice, Key, KeyName, Kind, TableKind};
-
-/// The greatest size of a value, in units.
-const MOST_UNITS: i64 = 1_000_000_000_000_000;
-
-/// The greatest size of a time, in ticks.
-const MOST_TICKS: i64 = 9_000_000_000_000_000_000;
+use fix_point::MOST_UNITS;
+use time_text::MOST_TICKS;
 
 /// A key that must be there, or what is taken in its place.
 macro_rules! key {

@@ -9,14 +9,14 @@ use crate::entries::Entry;
 use crate::key::{Choice, Kind};
 use crate::read::Scale;
 use crate::words::place_of;
-use fix_point::Extra;
+use fix_point::{Extra, MOST_UNITS};
 use itoa::Buffer;
 use std::alloc::Global;
 use time_text::{TimeForm, ticks, trimmed_text};
 use toml::Value;
 
-/// The greatest size of a value in units, and of a rate in millionths.
-const MOST_UNITS: u64 = 1_000_000_000_000_000;
+/// The greatest size of a rate, in millionths.
+const MOST_MILLIONTHS: u64 = 1_000_000_000_000_000;
 
 /// The longest span in ticks.
 const MOST_SPAN: u64 = 100_000_000_000_000_000;
@@ -39,9 +39,9 @@ pub(crate) fn read_value<'a>(
 {
     match kind {
         Kind::Whole { least, most } => numbered(whole(least, most, value)),
-        Kind::Value => numbered(scaled(scale.decimals, MOST_UNITS, value)),
-        Kind::Amount => numbered(at_least(0, scaled(scale.decimals, MOST_UNITS, value))),
-        Kind::Rate => numbered(scaled(RATE_DECIMALS, MOST_UNITS, value)),
+        Kind::Value => numbered(scaled(scale.decimals, MOST_UNITS as u64, value)),
+        Kind::Amount => numbered(at_least(0, scaled(scale.decimals, MOST_UNITS as u64, value))),
+        Kind::Rate => numbered(scaled(RATE_DECIMALS, MOST_MILLIONTHS, value)),
         Kind::Span => numbered(at_least(1, scaled(TICK_DECIMALS, MOST_SPAN, value))),
         Kind::Moment => numbered(moment(alloc, scale.form, value)),
         Kind::Name => name(value),

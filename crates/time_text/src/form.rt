@@ -1,7 +1,7 @@
 use thiserror::Error;
 
-// The greatest size of ticks.
-pub(crate) const MOST_TICKS: i64 = 9_000_000_000_000_000_000;
+/// The greatest size of a time in ticks, 9·10^18.
+pub const MOST_TICKS: i64 = 9_000_000_000_000_000_000;
 
 /// How a time is written.
 #[derive(Clone, Copy, Debug, PartialEq, Eq)]

@@ -8,7 +8,7 @@ mod number;
 mod read;
 mod trim;
 
-pub use form::{TimeFault, TimeForm};
+pub use form::{MOST_TICKS, TimeFault, TimeForm};
 pub use read::{one_answer, ticks};
 pub use trim::trimmed_text;
 
