@@ -9,7 +9,7 @@ SOURCES := crates.txt $(shell find crates -name out -prune -o -type f \( -name '
 FIRST := examples/first
 CERT := crates/screen/out/first.cert
 
-.PHONY: all demo test install clean
+.PHONY: docs all demo test install clean
 
 all: $(BINARY)
 
@@ -31,6 +31,10 @@ demo: $(BINARY)
 
 test:
 	rt ci
+
+# The table of keys in the documentation is the one that the description of rule files prints.
+docs:
+	@sed -n '/^| table | key /,/^$$/{/^$$/!p}' docs/FORMATS.md | cmp - crates/key_table/stdout && echo 'docs/FORMATS.md has the keys of rule files.'
 
 install: $(BINARY)
 	install -D -m 755 $(BINARY) $(DESTDIR)$(PREFIX)/bin/$(NAME)

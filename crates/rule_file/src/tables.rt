@@ -29,7 +29,7 @@ pub(crate) struct RuleTable<'a> {
 }
 
 /// The key at which the tables of a kind stand.
-fn key_of(kind: TableKind) -> &'static str
+pub fn key_of(kind: TableKind) -> &'static str
     ensures { result.now ≡ kind_text kind }
 {
     match kind {

@@ -53,7 +53,7 @@ const FROM: Key = key!(From, Kind::Moment, Absent::Number(-MOST_TICKS));
 const TO: Key = key!(To, Kind::Moment, Absent::Number(MOST_TICKS));
 
 /// The keys of a table, in the order in which they are looked at.
-pub(crate) fn keys_of(kind: TableKind) -> &'static [Key]
+pub fn keys_of(kind: TableKind) -> &'static [Key]
     ensures { result.now ≡ keys_of kind }
 {
     match kind {

@@ -15,4 +15,6 @@ mod words;
 pub use cause::RuleCause;
 pub use entries::Entries;
 pub use key::{Absent, Check, Choice, Key, KeyName, Kind, TableKind};
+pub use keys::keys_of;
 pub use read::{Scale, one_answer, read_table};
+pub use words::{key_text, words_of};

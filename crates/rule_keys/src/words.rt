@@ -7,7 +7,7 @@ ghost use Rattle.rule_keys.specs.Values.{IsWordAt};
 use crate::key::{Choice, KeyName};
 
 /// The text of a key.
-pub(crate) fn key_text(key: KeyName) -> &'static str
+pub fn key_text(key: KeyName) -> &'static str
     ensures { result.now ≡ key_text key }
 {
     match key {
@@ -32,8 +32,8 @@ pub(crate) fn key_text(key: KeyName) -> &'static str
     }
 }
 
-/// The words that may be chosen.
-fn words(choice: Choice) -> &'static [&'static str]
+/// The words that may be chosen, in the order of their places.
+pub fn words_of(choice: Choice) -> &'static [&'static str]
     ensures { map (λ word. word.now) result.now ≡ words choice }
 {
     match choice {
@@ -47,7 +47,7 @@ fn words(choice: Choice) -> &'static [&'static str]
 pub(crate) fn place_of(choice: Choice, word: &str) -> Option<usize>
     ensures { MatchOption result ((place : ℕ) → ¬ IsWordAt (words choice) word.now place) (IsWordAt (words choice) word.now) }
 {
-    place_among(words(choice), word)
+    place_among(words_of(choice), word)
 }
 
 fn place_among(words: &[&str], word: &str) -> Option<usize>

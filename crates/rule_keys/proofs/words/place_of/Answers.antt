@@ -2,4 +2,4 @@ use Rattle.rule_keys.proofs.Places.{place_found}
 use Rattle.rule_keys.proofs.words.place_of.Goals as goal
 
 pub returns : goal.returns
-returns c = rw (← c.words.ensures, c.place_among.ensures) (place_found c.words.result.now c.args.word.now)
+returns c = rw (← c.words_of.ensures, c.place_among.ensures) (place_found c.words_of.result.now c.args.word.now)
