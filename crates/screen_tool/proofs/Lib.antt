@@ -4,4 +4,5 @@ pub mod Floor
 pub mod Pairs
 pub mod WholeReads
 pub mod Rising
+pub mod OneOutcome
 pub mod Tells

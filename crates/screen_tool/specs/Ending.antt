@@ -1,5 +1,5 @@
 -- The status of each ending, and the number of each status.
-use Rattle.std.specs.Prelude.{ℕ}
+use Rattle.std.specs.Prelude.{◌≡◌, ℕ}
 use Rattle.screen_tool.specs.declared.status.Status.{Status}
 use Rattle.screen_tool.specs.declared.status.Status.TheVariants as status
 use Rattle.screen_tool.specs.declared.status.Ending.{Ending}
@@ -24,3 +24,10 @@ status_of ending.ReadFault = status.ReadFault
 status_of ending.WriteFault = status.WriteFault
 status_of ending.Memory = status.Memory
 status_of ending.NeedsRepair = status.NeedsRepair
+
+-- the status that an outcome calls for, where no fault was counted and memory was found
+abbrev pub IsStatusFor : Ending → Status → Type 0
+IsStatusFor outcome status.ReadFault = Unit {0}
+IsStatusFor outcome status.WriteFault = Unit {0}
+IsStatusFor outcome status.Memory = Unit {0}
+IsStatusFor outcome answered = answered ≡ status_of outcome

@@ -31,6 +31,17 @@ ReadingsObey found rows = Obeys (places rows) (values rows) (without_prices (bou
 abbrev pub unchanged_text : WholeSpeed → List Row → List ℕ
 unchanged_text found rows = table_text found.sensor rows (values rows)
 
+-- What the bytes of the two files come to.
+abbrev pub IsOutcome : List ℕ → List ℕ → Ending → Type 0
+IsOutcome rule_bytes reading_bytes Done =
+    (found : WholeSpeed) × (rows : List Row) × AreAccepted rule_bytes reading_bytes found rows × ReadingsObey found rows
+IsOutcome rule_bytes reading_bytes NeedsRepair =
+    (found : WholeSpeed) × (rows : List Row) × AreAccepted rule_bytes reading_bytes found rows × (¬ ReadingsObey found rows)
+IsOutcome rule_bytes reading_bytes (RulesRefused fault) = RefusesRules rule_bytes fault × (fault.cause ≢ rules.Memory)
+IsOutcome rule_bytes reading_bytes (ReadingsRefused fault) =
+    (found : WholeSpeed) × SpellsRules rule_bytes found × RefusesReadings found.sensor reading_bytes fault × (fault.cause ≢ readings.Memory)
+IsOutcome rule_bytes reading_bytes _ = ⊥
+
 -- The sinks `cert` and `out`, by what they held before and hold now.
 module _ (cert cert_now out out_now : Option (List ℕ)) where
   abbrev pub AreKept : Type 0

@@ -1,7 +1,7 @@
 -- The rules that the program works with so far.
-use Rattle.std.specs.Prelude.{◌≡◌, ◌⊎◌, ℕ, ◌*◌, ◌^◌, pos, ◌*ℤ◌, List, [], ◌∷◌, Option, Some, None, codes}
+use Rattle.std.specs.Prelude.{◌≡◌, ◌≢◌, ◌⊎◌, ℕ, ◌*◌, ◌^◌, pos, ◌*ℤ◌, List, [], ◌∷◌, Option, Some, None, Result, Ok, Err, codes}
 use Rattle.time_text.specs.declared.form.TimeForm.TheVariants.{Sec}
-use Rattle.rule_keys.specs.declared.cause.RuleCause.TheVariants.{NotBuilt}
+use Rattle.rule_keys.specs.declared.cause.RuleCause.TheVariants.{NotBuilt, Memory}
 use Rattle.rule_file.specs.declared.fault.RuleFault.{RuleFault}
 use Rattle.rule_file.specs.declared.rules.Format.{Format}
 use Rattle.rule_file.specs.declared.rules.SpeedRule.{SpeedRule}
@@ -56,3 +56,8 @@ IsOfOtherRules bytes = (rules : Rules) × rule_file.Spells bytes rules × ((spee
 -- The bytes are refused: as a rule file, or for what it says.
 abbrev pub Refuses : List ℕ → RuleFault → Type 0
 Refuses bytes fault = rule_file.Refuses bytes fault ⊎ (IsOfOtherRules bytes × (fault ≡ of_the_file NotBuilt))
+
+-- the one or the other; want of memory is no fault that the bytes have
+abbrev pub IsAnswer : List ℕ → Result WholeSpeed RuleFault → Type 0
+IsAnswer bytes (Ok speed) = Spells bytes speed
+IsAnswer bytes (Err fault) = (fault.cause ≢ Memory) × Refuses bytes fault

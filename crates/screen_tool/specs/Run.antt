@@ -8,9 +8,11 @@ use Rattle.rule_keys.specs.declared.cause.RuleCause.TheVariants as cause
 use Rattle.screen_tool.specs.Narrow.{Spells as SpellsRules, Refuses as RefusesRules}
 use Rattle.screen_tool.specs.declared.ends.Inputs.{Inputs}
 use Rattle.screen_tool.specs.declared.ends.Outputs.{Outputs}
+use Rattle.screen_tool.specs.declared.status.Status.{Status}
 use Rattle.screen_tool.specs.declared.status.Ending.{Ending}
 use Rattle.screen_tool.specs.declared.status.Ending.TheVariants.{Done, WriteFault, NeedsRepair}
-use Rattle.screen_tool.specs.Global.{Tells}
+use Rattle.screen_tool.specs.Global.{IsOutcome, Tells}
+use Rattle.screen_tool.specs.Ending.{IsStatusFor}
 use Rattle.screen_tool.specs.Note.{note_text}
 
 -- the two files were read to their ends
@@ -28,6 +30,13 @@ module _ {S K : Type 0} (left : S → Option (List ℕ)) (held : K → Option (L
       (rule_bytes reading_bytes : List ℕ) → left ins.rules ≡ Some rule_bytes → left ins.readings ≡ Some reading_bytes
       → Tells (held outs.cert) (held outs_now.cert) (held outs.out) (held outs_now.out) rule_bytes reading_bytes ending
       × IsWholeRead ending (left ins_now.rules) (left ins_now.readings)
+
+module _ {S : Type 0} (left : S → Option (List ℕ)) where
+  -- Where the sources of the rules and the readings tell their bytes, the status is the one that these call for.
+  abbrev pub AnswersFiles : Inputs S → Status → Type 0
+  AnswersFiles ins answered =
+      (rule_bytes reading_bytes : List ℕ) → left ins.rules ≡ Some rule_bytes → left ins.readings ≡ Some reading_bytes
+      → (outcome : Ending) → IsOutcome rule_bytes reading_bytes outcome → IsStatusFor outcome answered
 
 module _ {K : Type 0} (held : K → Option (List ℕ)) where
   -- The note says the ending: it is whole, or a part of it stands there and its sink counted a fault.

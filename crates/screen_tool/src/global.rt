@@ -2,7 +2,7 @@ ghost use Rattle.std.specs.Prelude.{◌≡◌, ◌≢◌, ◌⊎◌, ◌≤◌, 
 ghost use Rattle.series_csv.specs.Rows.{values};
 ghost use Rattle.series_csv.specs.Text.{table_text as text_of_table};
 ghost use Rattle.screen_tool.specs.Ending.{status_of};
-ghost use Rattle.screen_tool.specs.Global.{Tells, AreCut, AreWritten};
+ghost use Rattle.screen_tool.specs.Global.{Tells, AreCut, AreWritten, IsOutcome};
 ghost use Rattle.screen_tool.specs.Run.{EndsGlobal, FailsToRead, FailsToWrite, IsFaultless, IsWholeRead, StopsAtRules, WritesNothing};
 ghost use Rattle.screen_tool.specs.Steps.{IsEarly, IsUnchangedText};
 
@@ -44,6 +44,14 @@ pub(crate) fn global<S: Source, K: Sink>(
         },
         Err(ending) => ending,
     }
+}
+
+/// Two files come to one thing only: readings that obey or that do not, or one fault of one of the files.
+pub fn one_outcome()
+    ensures { (rule_bytes reading_bytes : List ℕ) (one other : Ending) → IsOutcome rule_bytes reading_bytes one → IsOutcome rule_bytes reading_bytes other → one ≡ other }
+{
+    rule_file::one_answer();
+    series_csv::one_answer();
 }
 
 // Reads both files. Where the readings obey the rules the answer is their text.

@@ -19,5 +19,6 @@ mod tests;
 
 pub use command::{Command, roles};
 pub use ends::{EndUse, Inputs, Outputs, Roles};
+pub use global::one_outcome;
 pub use program::run;
 pub use status::{Ending, Status};

@@ -1,11 +1,11 @@
 ghost use Rattle.std.specs.Prelude.{◌≡◌, ◌≢◌, ◌⊎◌, ◌↔◌, Some, None};
 ghost use Rattle.screen_tool.specs.Command.{command_of, texts};
 ghost use Rattle.screen_tool.specs.Ending.{status_of};
-ghost use Rattle.screen_tool.specs.Run.{EndsGlobal, FailsToRead, FailsToWrite, IsFaultless, NotesEnding, StopsAtRules, WritesNothing};
+ghost use Rattle.screen_tool.specs.Run.{AnswersFiles, EndsGlobal, FailsToRead, FailsToWrite, IsFaultless, NotesEnding, StopsAtRules, WritesNothing};
 
 use crate::command::{Command, command_from};
 use crate::ends::{Inputs, Outputs};
-use crate::global::global;
+use crate::global::{global, one_outcome};
 use crate::note::note_of;
 use crate::status::{Ending, Status};
 use screen_io::{Sink, Source, write_all_of};
@@ -46,11 +46,16 @@ pub fn run<S: Source, K: Sink>(
         × NotesEnding K.held K.faults outs.old outs.new ending
         × (command_of (texts words.now) ≡ Some Command.Global → EndsGlobal S.left K.held ins.old ins.new outs.old outs.new ending) }
 
+    // What two files come to is one thing only, and so is the status.
+    ensures only { command_of (texts words.now) ≡ Some Command.Global → AnswersFiles S.left ins.old result }
+
     // What is not used is left alone.
     ensures kept { result ≢ Status.Done → result ≢ Status.WriteFault → WritesNothing outs.old outs.new }
     ensures idle { result ≡ Status.Usage → ins.new ≡ ins.old }
     ensures unread { ins.new.cert ≡ ins.old.cert }
 {
+    // The law behind `only`; it does nothing.
+    one_outcome();
     let ending = ending_of(alloc, words, ins, outs);
     let note = note_of(&ending);
     // A note that can't be written changes nothing.

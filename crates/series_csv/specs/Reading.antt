@@ -1,5 +1,5 @@
 -- Which table the bytes of a readings file are, and what each refusal says of them.
-use Rattle.std.specs.Prelude.{◌≡◌, ℕ, ◌<◌, ◌≤◌, List, length}
+use Rattle.std.specs.Prelude.{◌≡◌, ◌≢◌, ℕ, ◌<◌, ◌≤◌, List, length, Result, Ok, Err}
 use Rattle.series_csv.specs.declared.table.Row.{Row}
 use Rattle.series_csv.specs.declared.fault.TableCause.{TableCause}
 use Rattle.series_csv.specs.declared.fault.TableCause.TheVariants.{NotBuilt, FileTooLong, Memory}
@@ -28,3 +28,8 @@ pub record Refuses (sensor bytes : List ℕ) (fault : TableFault) : Type 0 where
   pub cause : HasCause sensor bytes fault.cause
   pub row : fault.row ≡ 0
   pub col : fault.col ≡ 0
+
+-- the one or the other; want of memory is no fault that the bytes have
+abbrev pub IsAnswer : List ℕ → List ℕ → Result (List Row) TableFault → Type 0
+IsAnswer sensor bytes (Ok rows) = Spells sensor bytes rows
+IsAnswer sensor bytes (Err fault) = (fault.cause ≢ Memory) × Refuses sensor bytes fault

@@ -12,7 +12,7 @@ mod table;
 mod write;
 
 pub use fault::{TableCause, TableFault};
-pub use read::{LONGEST, read_table};
+pub use read::{LONGEST, one_answer, read_table};
 pub use table::{Row, Table};
 pub use write::table_text;
 

@@ -1,6 +1,6 @@
-ghost use Rattle.std.specs.Prelude.{◌≡◌, ◌++◌, ℕ, List, ◌∷◌, [], IfOk, IfErr, IfSome, IsSomeAnd, IsTrue, ◌↔◌};
+ghost use Rattle.std.specs.Prelude.{◌≡◌, ◌++◌, ℕ, List, Result, ◌∷◌, [], IfOk, IfErr, IfSome, IsSomeAnd, IsTrue, ◌↔◌};
 ghost use Rattle.series_csv.specs.Fields.{AreLinesOf, RefusesLines};
-ghost use Rattle.series_csv.specs.Reading.{Spells, Refuses, HasCause};
+ghost use Rattle.series_csv.specs.Reading.{Spells, Refuses, HasCause, IsAnswer};
 ghost use Rattle.series_csv.specs.Rows.{Rises};
 ghost use Rattle.series_csv.specs.Text.{header_text};
 
@@ -30,6 +30,11 @@ pub fn read_table(alloc: Global, sensor: &[u8], bytes: &[u8]) -> Result<Table, T
         }),
     }
 }
+
+/// A readings file has one answer only: its rows, or its fault.
+pub fn one_answer()
+    ensures { (sensor bytes : List ℕ) (one other : Result (List Row) TableFault) → IsAnswer sensor bytes one → IsAnswer sensor bytes other → one ≡ other }
+{}
 
 /// The table, or the cause that keeps the file from having one.
 pub(crate) fn table_of(alloc: Global, sensor: &[u8], bytes: &[u8]) -> Result<Table, TableCause>

@@ -1,5 +1,6 @@
 use Rattle.std.proofs.Common.{◌∙◌}
 use Rattle.screen_tool.specs.Note.{note_text}
+use Rattle.screen_tool.proofs.OneOutcome.{status_only}
 use Rattle.screen_tool.proofs.Tells.{notes_from_write}
 use Rattle.screen_tool.proofs.program.run.Goals as goal
 
@@ -10,3 +11,8 @@ returns-clause-ending g c =
     c.write_all_of.ensures.whole c.write_all_of.ensures.part c.write_all_of.ensures.cause
     in
     (c.ending_of-ending.result, c.status.ensures, rw (← c.ending_of-ending.ensures.note) noted, c.ending_of-ending.ensures.told)
+
+pub returns-clause-only : goal.returns-clause-only
+returns-clause-only g c = λ is rule_bytes reading_bytes rules_left readings_left outcome comes.
+    let told = c.ending_of-ending.ensures.told is rule_bytes reading_bytes rules_left readings_left in
+    rw c.status.ensures (status_only c.one_outcome.ensures rule_bytes reading_bytes _ _ _ _ c.ending_of-ending.result outcome told.0 comes)
