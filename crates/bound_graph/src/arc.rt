@@ -14,7 +14,7 @@ pub struct Arc {
     pub tail: u32,
     /// The node that it enters.
     pub head: u32,
-    /// Its cost; at most 4·10^15 in size in every use.
+    /// Its cost; at most 4·10^15 in size, as `IsArc` asks of every arc that an `ArcList` lists.
     pub cost: i64,
 }
 

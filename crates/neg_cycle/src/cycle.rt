@@ -21,7 +21,7 @@ pub(crate) fn write_cycle(parents: &[Option<Parent>], nodes: &[u32], cycle: &mut
     nodes.len() as u32
 }
 
-// The number of the arc from a node's parent.
+/// The number of the arc from a node's parent.
 fn arc_into(parents: &[Option<Parent>], node: u32) -> u32
     requires { node < length parents.now }
     ensures { result ≡ arc_of (parent_at parents.now node) }

@@ -43,7 +43,7 @@ pub(crate) fn relax<A: ArcList>(arcs: &A, i: u32, rank: u64, labels: &mut Labels
     }
 }
 
-// The same for an arc that is there.
+/// The same for an arc that is there.
 fn lower_head(i: u32, arc: Arc, rank: u64, labels: &mut Labels) -> bool
     requires valid { IsArc (length labels.old.distances.items) arc }
     requires parents { length labels.old.parents.items ≡ length labels.old.distances.items }

@@ -1,7 +1,8 @@
 //! The greatest distances that obey the arcs of a graph, or a cycle of arcs with a negative sum.
 //!
 //! The method is that of Bellman and Ford, with sweeps over the arcs in alternating direction and with the
-//! cycles found early, by a walk of the parents after every second sweep, as Tarjan proposed.
+//! cycles found early, by a walk of the parents after every second sweep (parent-graph search for negative cycles,
+//! as surveyed by Cherkassky and Goldberg, Negative-cycle detection algorithms, 1999).
 #![tactic(auto)]
 
 mod cycle;

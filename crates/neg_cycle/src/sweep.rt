@@ -14,6 +14,7 @@ use bound_graph::ArcList;
 
 /// What `settle` came to.
 #[derive(Clone, Copy, Debug, PartialEq, Eq)]
+#[must_use]
 pub enum Settled {
     /// The distances are the greatest that obey.
     Greatest,
@@ -49,7 +50,7 @@ pub fn settle<A: ArcList>(arcs: &A, room: &mut Room) -> Settled
     }
 }
 
-// Sweeps until the distances obey, or a cycle of parents stands in a stretch of the path.
+/// Sweeps until the distances obey, or a cycle of parents stands in a stretch of the path.
 fn lower<A: ArcList>(arcs: &A, labels: &mut Labels, path: &mut Vec<u32>) -> Option<Stretch>
     requires few { A.node_count arcs.now < 2 ^ 32 }
     requires nodes { length labels.old.distances.items ≡ A.node_count arcs.now }
@@ -71,7 +72,7 @@ fn lower<A: ArcList>(arcs: &A, labels: &mut Labels, path: &mut Vec<u32>) -> Opti
     None
 }
 
-// Sweeps over the arcs in rising and then in falling order. Answers whether each sweep lowered a distance.
+/// Sweeps over the arcs in rising and then in falling order. Answers whether each sweep lowered a distance.
 fn sweep_twice<A: ArcList>(arcs: &A, labels: &mut Labels) -> bool
     requires nodes { length labels.old.distances.items ≡ A.node_count arcs.now }
     requires labels { AreLabels (A.listed arcs.now) (A.node_count arcs.now) labels.old }
@@ -84,8 +85,8 @@ fn sweep_twice<A: ArcList>(arcs: &A, labels: &mut Labels) -> bool
     sweep_up(arcs, nodes, labels) && sweep_down(arcs, nodes + u64::from(arcs.arcs()), labels)
 }
 
-// Relaxes each arc, in rising order of the numbers. Answers whether a distance was lowered. The ranks that it gives begin
-// at `bound`.
+/// Relaxes each arc, in rising order of the numbers. Answers whether a distance was lowered. The ranks that it gives begin
+/// at `bound`.
 fn sweep_up<A: ArcList>(arcs: &A, bound: u64, labels: &mut Labels) -> bool
     requires nodes { length labels.old.distances.items ≡ A.node_count arcs.now }
     requires bound { bound < 2 ^ 33 }
@@ -102,7 +103,7 @@ fn sweep_up<A: ArcList>(arcs: &A, bound: u64, labels: &mut Labels) -> bool
     fell
 }
 
-// The same in falling order.
+/// The same in falling order.
 fn sweep_down<A: ArcList>(arcs: &A, bound: u64, labels: &mut Labels) -> bool
     requires nodes { length labels.old.distances.items ≡ A.node_count arcs.now }
     requires bound { bound < 2 ^ 33 }

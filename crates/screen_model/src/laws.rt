@@ -6,7 +6,7 @@ pub fn weak_duality()
     ensures { WeakDuality }
 {}
 
-/// No series that obeys costs less than one whose cost is the dual value of an admissible flow.
+/// No series that obeys costs less than a series that obeys and whose cost is the dual value of an admissible flow.
 pub fn best_costs_least()
     ensures { BestCostsLeast }
 {}

@@ -76,6 +76,13 @@ impl<T: Drop> Sequence<T> {
     {
         self.elements.as_slice()
     }
+
+    /// The elements as a vector. Takes no memory.
+    pub fn into_vec(self) -> Vec<T>
+        ensures { result.items ≡ self }
+    {
+        self.elements
+    }
 }
 
 impl Sequence<u8> {
@@ -104,6 +111,7 @@ mod tests {
         assert_eq!(rt; name.bytes(), b"duel".as_slice());
         assert_eq!(rt; name.get(3), Some(&b'l'));
         assert_eq!(rt; name.get(4), None);
+        assert_eq!(rt; name.into_vec().as_slice(), b"duel".as_slice());
         Ok(())
     }
 }

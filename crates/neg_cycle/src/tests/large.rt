@@ -67,7 +67,7 @@ fn start_of(node: u32, near: u32) -> i64
     if node == near { 0 } else { FAR }
 }
 
-/// Settles a graph of these arcs in which one node starts at 0 and all others far away, in a handful of sweeps.
+/// Settles a graph of these arcs in which one node starts at 0 and all others far away, in at most three sweeps.
 fn settled_from(
     rt: &impl Abort,
     alloc: Global,
@@ -86,8 +86,12 @@ fn settled_from(
         looked: Cell::new(0),
     };
     let outcome = settle(&counted, &mut room);
-    let sweeps = counted.looked.get() / (rows.len() as u64).max(1);
-    assert!(rt; sweeps <= 6, "{sweeps} sweeps");
+    let looked = counted.looked.get();
+    assert!(rt;
+        looked <= 3 * rows.len() as u64,
+        "{looked} looks at {} arcs",
+        rows.len()
+    );
     Ok((outcome, room))
 }
 
