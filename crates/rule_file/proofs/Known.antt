@@ -40,8 +40,7 @@ among_if_at (kind ∷ kinds) key (suc k) within at = or_right _ _ (among_if_at k
 pub known_is : (key : List ℕ) (is_format found : Bool) → is_format ≡ bytes_eq (kind_text Format) key → is_format ≡ false
     → found ≡ is_among rule_kinds key → IsTrue found ↔ Contains table_texts key
 known_is key is_format found is other among =
-    let same : is_among (Format ∷ rule_kinds) key ≡ found = ap (λ b. b || is_among rule_kinds key) (sym is ∙ other) ∙ sym among in
-    (
+    let same : is_among (Format ∷ rule_kinds) key ≡ found = ap (λ b. b || is_among rule_kinds key) (sym is ∙ other) ∙ sym among in (
       λ yes. found_if_among (Format ∷ rule_kinds) key (same ∙ yes),
       λ (k, within, at). sym same ∙ among_if_at (Format ∷ rule_kinds) key k within at,
     )
