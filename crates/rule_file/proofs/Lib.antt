@@ -1,4 +1,5 @@
 pub mod Facts
+pub mod Known
 pub mod Names
 pub mod OneFile
 pub mod OneRule

@@ -11,7 +11,7 @@ use crate::each::read_each;
 use crate::fault::{RuleFault, of_the_file};
 use crate::format::{format_from, scale_of};
 use crate::rules::Rules;
-use crate::tables::{RuleTable, has_known_keys, rule_tables};
+use crate::tables::{RuleTable, has_known_keys, key_of, rule_tables};
 use rule_keys::{Entries, RuleCause, Scale, TableKind, read_table};
 use std::alloc::Global;
 use time_text::TimeForm;
@@ -33,7 +33,7 @@ pub(crate) fn document_rules(alloc: Global, file: &Table) -> Result<Rules, RuleF
     if !has_known_keys(file) {
         return Err(of_the_file(RuleCause::UnknownKey));
     }
-    let Some(value) = file.get("format") else {
+    let Some(value) = file.get(key_of(TableKind::Format)) else {
         return Err(of_the_file(RuleCause::MissingKey));
     };
     match value.as_table() {

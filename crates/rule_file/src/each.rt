@@ -51,6 +51,7 @@ fn read_rule(
         Ok(entries) => push_rule(alloc, draft, rule.kind, &entries).map_err(|_| of_the_file(
             RuleCause::Memory,
         )),
+        Err(RuleCause::Memory) => Err(of_the_file(RuleCause::Memory)),
         Err(cause) => Err(RuleFault {
             cause,
             rule: number,

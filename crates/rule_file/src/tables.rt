@@ -1,5 +1,7 @@
 //! The tables of a rule file.
 ghost use Rattle.std.specs.Prelude.{◌≡◌, ◌≢◌, ◌↔◌, Some, None, map, option_map, IsTrue, IfOk, IfErr, OnOk, Contains};
+ghost use Rattle.std.specs.List.{list_any};
+ghost use Rattle.std.specs.Str.{bytes_eq};
 ghost use Rattle.toml.specs.View.{view, items_view, table_view};
 ghost use Rattle.rule_keys.specs.Reading.{HasOnly};
 ghost use Rattle.rule_file.specs.Document.{kind_text, rule_kinds, table_texts, of_the_file, tables_in, tables_of, rule_tables, joined};
@@ -48,10 +50,21 @@ pub fn key_of(kind: TableKind) -> &'static str
 fn is_known(key: &str) -> bool
     ensures { IsTrue result ↔ Contains table_texts key.now }
 {
-    matches!(
-        key,
-        "format" | "speed" | "swing" | "drift" | "range" | "trust" | "weight" | "between"
-    )
+    is_key_of(TableKind::Format, key) || is_among(&RULE_KINDS, key)
+}
+
+/// Whether tables of one of these kinds stand at the key.
+fn is_among(kinds: &[TableKind], key: &str) -> bool
+    ensures { result ≡ list_any (λ kind. bytes_eq (kind_text kind) key.now) kinds.now }
+{
+    kinds.iter().any(|kind| is_key_of(*kind, key))
+}
+
+/// Whether tables of this kind stand at the key.
+fn is_key_of(kind: TableKind, key: &str) -> bool
+    ensures { result ≡ bytes_eq (kind_text kind) key.now }
+{
+    key_of(kind) == key
 }
 
 /// Whether a file has no other keys than those of the tables.

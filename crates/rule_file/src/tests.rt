@@ -39,6 +39,60 @@ min = 0
 max = 120
 ";
 
+/// The example of `docs/FORMATS.md`.
+const TANK: &str = "[format]
+decimals = 3
+time = \"when\"
+form = \"instant\"
+
+[[speed]]
+sensor = \"level\"
+min = \"-0.005\"
+max = \"0.005\"
+window = 120
+
+[[range]]
+sensor = \"level\"
+min = 0
+max = 4
+
+# The sensor was calibrated in this hour.
+[[trust]]
+sensor = \"level\"
+from = \"2026-05-01T09:00:00Z\"
+to = \"2026-05-01T10:00:00Z\"
+";
+
+/// A rule of a sensor and itself, alone.
+const SAME: &str = "[format]
+decimals = 0
+[[between]]
+first = \"in\"
+second = \"in\"
+min = 0
+max = 5
+";
+
+/// Rates that lead too far within the window.
+const FAR: &str = "[format]
+decimals = 0
+[[speed]]
+sensor = \"x\"
+min = -1
+max = 1000000000
+window = 100000000
+";
+
+/// A weight below the least one; the range has the lesser number.
+const WEIGHTLESS: &str = "[format]
+decimals = 0
+[[weight]]
+sensor = \"x\"
+weight = 0
+[[range]]
+sensor = \"x\"
+";
+
 /// Rules of all kinds, in no order of their kinds.
 const MIXED: &str = "[[between]]
 first = \"a\"
@@ -97,6 +151,23 @@ fn changed(alloc: Global, text: &str, part: &str, other: &str) -> Result<String,
         Some((before, after)) => format!(in alloc; "{before}{other}{after}"),
         None => String::from_str(alloc, text),
     }
+}
+
+/// A file of a thousand rules, and then this text.
+fn a_thousand_rules_and(alloc: Global, rest: &str) -> Result<String, AllocError> {
+    let mut text = String::from_str(alloc, "[format]\ndecimals = 0\n")?;
+    for _rule in 0..1000 {
+        text.push_str("[[trust]]\nsensor = \"x\"\n")?;
+    }
+    text.push_str(rest)?;
+    Ok(text)
+}
+
+/// The base rules and line breaks, so many bytes in all.
+fn base_of_length(alloc: Global, length: usize) -> Result<Vec<u8>, AllocError> {
+    let mut bytes = BASE.as_bytes().to_vec(alloc)?;
+    bytes.resize(length, b'\n')?;
+    Ok(bytes)
 }
 
 /// The sensor, the rates and the window of a speed rule.
@@ -165,7 +236,16 @@ fn a_speed_rule(rt: HostRuntime) -> Result<(), Fail> {
 }
 
 #[test]
-fn rules_of_a_tank(rt: HostRuntime) -> Result<(), Fail> {
+fn a_rate_with_decimals(rt: HostRuntime) -> Result<(), Fail> {
+    let text = changed(rt.alloc(), BASE, "max = 1", "max = \"0.5\"")?;
+    let rules = read_rules(rt.alloc(), text.as_bytes())?;
+    let speed = (b"x".as_slice(), -1_000_000, 500_000, 1, 10_000_000_000);
+    assert_eq!(rt; speed_at(&rules, 0), Some(speed));
+    Ok(())
+}
+
+#[test]
+fn rules_of_a_fuel_tank(rt: HostRuntime) -> Result<(), Fail> {
     let rules = read_rules(rt.alloc(), FUEL.as_bytes())?;
     let speed = (b"fuel".as_slice(), -50_000, 50_000, 1, 60_000_000_000);
     assert_eq!(rt; speed_at(&rules, 0), Some(speed));
@@ -176,6 +256,24 @@ fn rules_of_a_tank(rt: HostRuntime) -> Result<(), Fail> {
     let format = &rules.format;
     assert_eq!(rt; (format.decimals, format.form), (2, TimeForm::Instant));
     assert!(rt; matches!(&format.time, Some(name) if name.bytes() == b"time".as_slice()));
+    Ok(())
+}
+
+#[test]
+fn rules_of_a_water_tank(rt: HostRuntime) -> Result<(), Fail> {
+    let rules = read_rules(rt.alloc(), TANK.as_bytes())?;
+    assert_eq!(rt; rules.count(), 3);
+    assert_eq!(rt;
+        (rules.speeds.len(), rules.ranges.len(), rules.trusts.len()),
+        (1, 1, 1)
+    );
+    let level = b"level".as_slice();
+    let speed = (level, -5_000, 5_000, 1, 120_000_000_000);
+    assert_eq!(rt; speed_at(&rules, 0), Some(speed));
+    assert_eq!(rt; range_at(&rules, 0), Some((level, 0, 4_000, -LAST, LAST)));
+    // 1,777,626,000 seconds after 1970, and an hour later.
+    let trust = (level, 1_777_626_000_000_000_000, 1_777_629_600_000_000_000);
+    assert_eq!(rt; trust_at(&rules, 0), Some(trust));
     Ok(())
 }
 
@@ -229,27 +327,53 @@ fn rules_are_numbered_kind_by_kind(rt: HostRuntime) -> Result<(), Fail> {
 }
 
 #[test]
-fn causes_one_by_one(rt: HostRuntime) -> Result<(), Fail> {
+fn each_cause_once(rt: HostRuntime) -> Result<(), Fail> {
     let rows = [
         ("[[speed]]", "[[speed]", Syntax, 0),
-        ("[format]", "[[format]]", WrongKind, 0),
-        ("decimals = 0", "decimals = 7", OutOfLimit, 0),
+        ("window", "colour = 1\nwindow", UnknownKey, 1),
+        ("max = 1\n", "", MissingKey, 1),
         ("max = 1", "max = 0.5", WrongKind, 1),
         ("max = 1", "max = \"1,5\"", BadNumber, 1),
         ("min = -1", "min = 2", Order, 1),
-        ("window", "colour = 1\nwindow", UnknownKey, 1),
-        ("max = 1", "max = 1000000000", ReachTooLarge, 1),
+        (BASE, FAR, ReachTooLarge, 1),
+        (BASE, WEIGHTLESS, OutOfLimit, 2),
+        (BASE, SAME, SameSensor, 1),
     ];
     for (part, other, cause, rule) in rows {
-        let far = changed(rt.alloc(), BASE, "window = 10", "window = 100000000")?;
-        let text = changed(rt.alloc(), far.as_str(), part, other)?;
+        let text = changed(rt.alloc(), BASE, part, other)?;
         assert_eq!(rt;
             fault_of(rt.alloc(), text.as_str()),
             fault(cause, rule),
             "{other}"
         );
     }
-    assert_eq!(rt; fault_of(rt.alloc(), ""), fault(MissingKey, 0));
+    let many = a_thousand_rules_and(rt.alloc(), "[[range]]\n")?;
+    assert_eq!(rt; fault_of(rt.alloc(), many.as_str()), fault(TooMany, 0));
+    let long = base_of_length(rt.alloc(), 1_048_577)?;
+    assert_eq!(rt;
+        read_rules(rt.alloc(), long.as_slice()).err(),
+        fault(FileTooLong, 0)
+    );
+    Ok(())
+}
+
+#[test]
+fn faults_of_the_file_have_rule_0(rt: HostRuntime) -> Result<(), Fail> {
+    let rows = [
+        ("[format]", "[[format]]", WrongKind),
+        ("decimals = 0", "decimals = 7", OutOfLimit),
+        (BASE, "", MissingKey),
+    ];
+    for (part, other, cause) in rows {
+        let text = changed(rt.alloc(), BASE, part, other)?;
+        assert_eq!(rt;
+            fault_of(rt.alloc(), text.as_str()),
+            fault(cause, 0),
+            "{other}"
+        );
+    }
+    // No UTF-8.
+    assert_eq!(rt; read_rules(rt.alloc(), &[0xFF]).err(), fault(Syntax, 0));
     Ok(())
 }
 
@@ -267,7 +391,7 @@ fn the_first_of_two_faults(rt: HostRuntime) {
         ),
         ("[format]\ndecimals = 0\n[[trust]]\n[range]\n", WrongKind, 0),
         (
-            "[format]\ndecimals = 0\n[[range]]\n[[swing]]\nmost = -1\n",
+            "[format]\ndecimals = 0\n[[swing]]\n[[range]]\nzone = 1\n",
             MissingKey,
             1,
         ),
@@ -293,26 +417,15 @@ fn the_first_of_two_faults(rt: HostRuntime) {
 }
 
 #[test]
-fn a_thousand_rules_and_no_more(rt: HostRuntime) -> Result<(), Fail> {
-    let mut text = String::from_str(rt.alloc(), "[format]\ndecimals = 0\n")?;
-    for _rule in 0..1000 {
-        text.push_str("[[trust]]\nsensor = \"x\"\n")?;
-    }
+fn a_thousand_rules_are_read(rt: HostRuntime) -> Result<(), Fail> {
+    let text = a_thousand_rules_and(rt.alloc(), "")?;
     assert_eq!(rt; read_rules(rt.alloc(), text.as_bytes())?.count(), 1000);
-    text.push_str("[[range]]\n")?;
-    assert_eq!(rt; fault_of(rt.alloc(), text.as_str()), fault(TooMany, 0));
     Ok(())
 }
 
 #[test]
-fn a_file_of_the_greatest_length(rt: HostRuntime) -> Result<(), Fail> {
-    let mut bytes = BASE.as_bytes().to_vec(rt.alloc())?;
-    bytes.resize(1_048_576, b'\n')?;
+fn a_file_of_the_greatest_length_is_read(rt: HostRuntime) -> Result<(), Fail> {
+    let bytes = base_of_length(rt.alloc(), 1_048_576)?;
     assert_eq!(rt; read_rules(rt.alloc(), bytes.as_slice())?.count(), 1);
-    bytes.push(b'\n')?;
-    assert_eq!(rt;
-        read_rules(rt.alloc(), bytes.as_slice()).err(),
-        fault(FileTooLong, 0)
-    );
     Ok(())
 }

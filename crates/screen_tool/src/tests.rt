@@ -193,6 +193,7 @@ fn refused_rules_are_named(rt: HostRuntime) -> Result<(), Fail> {
         ),
         (BASE, "", "MissingKey, rule 0"),
         ("window = 10\n", "", "MissingKey, rule 1"),
+        ("[[speed]]", "speed = 3\n[[trust]]", "WrongKind, rule 0"),
         ("max = 1", "max = 0.5", "WrongKind, rule 1"),
         ("max = 1", "max = \"one\"", "BadNumber, rule 1"),
         ("min = -1", "min = 2", "Order, rule 1"),
