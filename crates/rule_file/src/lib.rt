@@ -18,9 +18,9 @@ mod typed;
 
 pub use fault::RuleFault;
 pub use read::{LONGEST, one_answer, read_rules};
-pub use tables::key_of;
 pub use rule_keys::RuleCause;
 pub use rules::{
     BetweenList, BetweenRule, DriftList, DriftRule, Format, Name, RangeList, RangeRule, Rules,
     SpeedList, SpeedRule, SwingList, SwingRule, TrustList, TrustRule, WeightList, WeightRule,
 };
+pub use tables::key_of;
