@@ -181,24 +181,40 @@ fn assert_refused(rt: &impl Abort, alloc: Global, rules: &str, fault: &str) -> R
 }
 
 #[test]
-fn refused_rules_are_named(rt: HostRuntime) -> Result<(), Fail> {
+fn refused_files_are_named(rt: HostRuntime) -> Result<(), Fail> {
     let alloc = rt.alloc();
     let cases = [
         ("[[speed]]", "[[speed]", "Syntax, rule 0"),
         ("[[speed]]", "[[haste]]", "UnknownKey, rule 0"),
+        (BASE, "", "MissingKey, rule 0"),
+        (
+            BASE,
+            "speed = 3\n[format]\ndecimals = 0\n",
+            "WrongKind, rule 0",
+        ),
+        ("decimals = 0", "decimals = 7", "OutOfLimit, rule 0"),
+    ];
+    for (part, other, fault) in cases {
+        let rules = changed(alloc, part, other)?;
+        assert_refused(&rt, alloc, rules.as_str(), fault)?;
+    }
+    Ok(())
+}
+
+#[test]
+fn refused_rules_are_named(rt: HostRuntime) -> Result<(), Fail> {
+    let alloc = rt.alloc();
+    let cases = [
         (
             "window = 10",
             "window = 10\ncolour = 1",
             "UnknownKey, rule 1",
         ),
-        (BASE, "", "MissingKey, rule 0"),
         ("window = 10\n", "", "MissingKey, rule 1"),
-        ("[[speed]]", "speed = 3\n[[trust]]", "WrongKind, rule 0"),
         ("max = 1", "max = 0.5", "WrongKind, rule 1"),
         ("max = 1", "max = \"one\"", "BadNumber, rule 1"),
         ("min = -1", "min = 2", "Order, rule 1"),
         ("per = 1", "per = 0", "OutOfLimit, rule 1"),
-        ("decimals = 0", "decimals = 7", "OutOfLimit, rule 0"),
         (
             "window = 10\n",
             "window = 10\n[[between]]\nfirst = \"x\"\nsecond = \"x\"\nmin = 0\nmax = 1\n",
@@ -230,21 +246,52 @@ fn too_many_rules_and_too_long_a_file_are_named(rt: HostRuntime) -> Result<(), F
 }
 
 #[test]
-fn rules_that_are_not_narrow_are_not_built(rt: HostRuntime) -> Result<(), Fail> {
+fn formats_that_are_not_plain_are_not_built(rt: HostRuntime) -> Result<(), Fail> {
+    let alloc = rt.alloc();
+    for format in [
+        "decimals = 1",
+        "decimals = 0\nform = \"ms\"",
+        "decimals = 0\nseparator = \";\"",
+        "decimals = 0\ntime = \"when\"",
+    ] {
+        let rules = changed(alloc, "decimals = 0", format)?;
+        assert_refused(&rt, alloc, rules.as_str(), "NotBuilt, rule 0")?;
+    }
+    Ok(())
+}
+
+#[test]
+fn a_speed_rule_that_is_not_whole_is_not_built(rt: HostRuntime) -> Result<(), Fail> {
     let alloc = rt.alloc();
     let changes = [
-        ("decimals = 0", "decimals = 2"),
-        ("decimals = 0", "decimals = 0\nform = \"ms\""),
-        ("decimals = 0", "decimals = 0\nseparator = \";\""),
-        ("decimals = 0", "decimals = 0\ntime = \"when\""),
+        ("min = -1", "min = -1000001"),
         ("max = 1", "max = \"0.5\""),
         ("max = 1", "max = 1000001"),
+        ("per = 1", "per = 1000001"),
         ("window = 10", "window = \"0.5\""),
+        ("window = 10", "window = 1000001"),
         ("\"x\"", "\"X\""),
-        ("[[speed]]", "[[trust]]\nsensor = \"x\"\n[[speed]]"),
     ];
     for (part, other) in changes {
         let rules = changed(alloc, part, other)?;
+        assert_refused(&rt, alloc, rules.as_str(), "NotBuilt, rule 0")?;
+    }
+    Ok(())
+}
+
+#[test]
+fn rules_beside_the_speed_rule_are_not_built(rt: HostRuntime) -> Result<(), Fail> {
+    let alloc = rt.alloc();
+    for rule in [
+        "[[speed]]\nsensor = \"y\"\nmin = -1\nmax = 1\nwindow = 10\n",
+        "[[swing]]\nsensor = \"x\"\nmost = 5\nwindow = 10\n",
+        "[[drift]]\nsensor = \"x\"\nmin = -1\nmax = 1\nover = 5\nwindow = 10\n",
+        "[[range]]\nsensor = \"x\"\nmax = 20\n",
+        "[[trust]]\nsensor = \"x\"\n",
+        "[[weight]]\nsensor = \"x\"\nweight = 2\n",
+        "[[between]]\nfirst = \"x\"\nsecond = \"y\"\nmin = -1\nmax = 1\n",
+    ] {
+        let rules = format!(in alloc; "{}{rule}", BASE)?;
         assert_refused(&rt, alloc, rules.as_str(), "NotBuilt, rule 0")?;
     }
     Ok(())
@@ -255,7 +302,9 @@ fn narrow_rules_may_be_written_otherwise(rt: HostRuntime) -> Result<(), Fail> {
     let alloc = rt.alloc();
     let changes = [
         ("max = 1", "max = \"1.0\""),
+        ("max = 1", "max = 1000000"),
         ("per = 1\n", ""),
+        ("window = 10", "window = 1000000"),
         (
             "decimals = 0",
             "decimals = 0\ntime = \"time\"\nextra = \"round\"\nhold = 9",
