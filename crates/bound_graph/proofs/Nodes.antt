@@ -8,7 +8,7 @@ use Rattle.screen_model.specs.declared.place.Place.{Place}
 use Rattle.screen_model.specs.declared.place.End.{End}
 use Rattle.screen_model.specs.declared.place.End.TheVariants.{Zero, At}
 use Rattle.screen_model.specs.declared.bound.Bound.{Bound}
-use Rattle.screen_model.specs.Lists.{Distinct}
+use Rattle.words.specs.Lists.{Distinct}
 use Rattle.screen_model.specs.Series.{is_same_place}
 use Rattle.bound_graph.specs.Graph.{index_of, node_of, arc_of}
 use Rattle.screen_model.specs.Obeys.{HasEnds}

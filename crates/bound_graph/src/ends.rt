@@ -1,7 +1,7 @@
 //! The nodes that stand for the ends of bounds, and the arcs that stand for bounds.
 ghost use Rattle.std.specs.Prelude.{◌≡◌, ◌<◌, ◌+◌, ◌^◌, length, map, IfOk};
 ghost use Rattle.std.specs.List.{AllByRecursion};
-ghost use Rattle.screen_model.specs.Lists.{Distinct};
+ghost use Rattle.words.specs.Lists.{Distinct};
 ghost use Rattle.bound_graph.specs.Graph.{arc_of};
 ghost use Rattle.screen_model.specs.Obeys.{HasEnds};
 ghost use Rattle.bound_graph.specs.Ends.{arc_in, node_in, IsNumbered};

@@ -1,6 +1,6 @@
 ghost use Rattle.std.specs.Prelude.{◌≡◌, ◌<◌, ◌≤◌, ◌*◌, ◌^◌, length, unsigned_abs, IfOk};
 ghost use Rattle.std.specs.List.{AllByRecursion};
-ghost use Rattle.screen_model.specs.Lists.{Distinct};
+ghost use Rattle.words.specs.Lists.{Distinct};
 ghost use Rattle.screen_model.specs.Obeys.{HasEnds};
 
 use crate::{Arc, ArcList, ArcTable, Graph};

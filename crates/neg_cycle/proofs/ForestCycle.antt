@@ -5,7 +5,7 @@ use Rattle.std.proofs.lemmas.Grind.{common_steps}
 use Rattle.std.proofs.lemmas.Bool.{cases_lt}
 use Rattle.std.proofs.lemmas.List.{ext_get_or, length-map, get_or-map}
 use Rattle.std.proofs.lemmas.List.Elements.{recursion_from_All, All-from_get_or}
-use Rattle.screen_model.specs.Lists.{Distinct, rotated}
+use Rattle.words.specs.Lists.{Distinct, rotated}
 use Rattle.neg_cycle.specs.declared.forest.Parent.{Parent}
 use Rattle.neg_cycle.specs.Forest.{parent_at, IsParentCycle}
 use Rattle.neg_cycle.specs.ForestWalk.{tail_at}

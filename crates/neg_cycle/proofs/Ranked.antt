@@ -3,7 +3,7 @@ use Rattle.std.proofs.Common.{◌≡◌, ℕ, zero, suc, ◌*◌, ◌^◌, ◌<�
 use Rattle.std.specs.List.{All}
 use Rattle.std.proofs.lemmas.Int.{ints}
 use Rattle.std.proofs.lemmas.List.Elements.{All-from_get_or}
-use Rattle.screen_model.specs.Lists.{total}
+use Rattle.words.specs.Lists.{total}
 use Rattle.bound_graph.specs.declared.arc.Arc.{Arc}
 use Rattle.neg_cycle.specs.declared.forest.Parent.{Parent}
 use Rattle.neg_cycle.specs.Forest.{parent_at, IsRanking}

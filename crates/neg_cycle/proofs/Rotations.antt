@@ -2,7 +2,7 @@
 use Rattle.std.proofs.Common.{◌≡◌, ◌≢◌, List, [], ◌∷◌, ◌++◌, map, reverse, refl, sym, ap, ◌∙◌}
 use Rattle.std.specs.List.{AllByRecursion}
 use Rattle.std.proofs.lemmas.List.{map-append, reverse-append}
-use Rattle.screen_model.specs.Lists.{Distinct, rotated}
+use Rattle.words.specs.Lists.{Distinct, rotated}
 
 pub map-rotated : {A B : Type 0} (f : A → B) (xs : List A) → map f (rotated xs) ≡ rotated (map f xs)
 map-rotated f [] = refl

@@ -2,7 +2,7 @@
 use Rattle.std.proofs.Common.{◌≡◌, ℕ, zero, suc, ◌*◌, ◌<◌, ℤ, pos, ◌+ℤ◌, ◌≤ℤ◌, ◌<ℤ◌, List, [], ◌∷◌, ◌++◌, length, get_or, set, reverse, refl, arith}
 use Rattle.std.proofs.lemmas.Int.{ints}
 use Rattle.neg_cycle.proofs.Rotations.{reverse_cons}
-use Rattle.screen_model.specs.Lists.{rotated, total}
+use Rattle.words.specs.Lists.{rotated, total}
 
 pub total-append : (xs ys : List ℤ) → total (xs ++ ys) ≡ total xs +ℤ total ys
 total-append [] ys = omega (arith, ints)

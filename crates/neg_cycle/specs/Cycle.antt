@@ -1,6 +1,6 @@
 -- Cycles of arcs.
 use Rattle.std.specs.Prelude.{◌≡◌, ℕ, ◌≤◌, negsuc, ◌≤ℤ◌, List, length, map, Option, Some}
-use Rattle.screen_model.specs.Lists.{Distinct, rotated, total}
+use Rattle.words.specs.Lists.{Distinct, rotated, total}
 use Rattle.bound_graph.specs.declared.arc.Arc.{Arc}
 use Rattle.bound_graph.specs.Arcs.{arc_at}
 

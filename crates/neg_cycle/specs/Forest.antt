@@ -1,6 +1,6 @@
 -- Parents of nodes.
 use Rattle.std.specs.Prelude.{◌≡◌, ℕ, ◌<◌, ◌≤◌, List, length, map, Option, None, Some, get_or, All, IfSome}
-use Rattle.screen_model.specs.Lists.{Distinct, rotated}
+use Rattle.words.specs.Lists.{Distinct, rotated}
 use Rattle.neg_cycle.specs.declared.forest.Parent.{Parent}
 
 -- the parent of a node, if it has one

@@ -1,6 +1,6 @@
 -- Labels of nodes: a distance, a parent and a rank for each.
 use Rattle.std.specs.Prelude.{◌≡◌, ℕ, ◌-◌, ◌*◌, ◌^◌, ◌<◌, ◌≤◌, Bool, true, false, ℤ, pos, ◌+ℤ◌, ◌≤ℤ◌, ◌<ℤ◌, ◌⊎◌, List, length, map, reverse, take, drop, Option, None, Some, get_or, All, MatchOption}
-use Rattle.screen_model.specs.Lists.{total}
+use Rattle.words.specs.Lists.{total}
 use Rattle.bound_graph.specs.declared.arc.Arc.{Arc}
 use Rattle.bound_graph.specs.Arcs.{arc_at, IsArc}
 use Rattle.neg_cycle.specs.Distances.{Obeys, AreAtMost}

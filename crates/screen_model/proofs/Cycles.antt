@@ -7,7 +7,7 @@ use Rattle.std.proofs.lemmas.List.Elements.{All-from_recursion, All-contains}
 use Rattle.screen_model.specs.declared.place.Place.{Place}
 use Rattle.screen_model.specs.declared.place.End.{End}
 use Rattle.screen_model.specs.Series.{value_at}
-use Rattle.screen_model.specs.Lists.{rotated, total}
+use Rattle.words.specs.Lists.{rotated, total}
 use Rattle.screen_model.specs.Obeys.{Priced, rise, Keeps, Obeys}
 use Rattle.screen_model.specs.Best.{BlockedForbids}
 

@@ -10,7 +10,7 @@ use Rattle.screen_model.specs.declared.place.Place.{Place}
 use Rattle.screen_model.specs.declared.bound.BoundName.{BoundName}
 use Rattle.screen_model.specs.declared.bound.Side.{Side}
 use Rattle.screen_model.specs.declared.bound.Side.TheVariants.{Up, Down}
-use Rattle.screen_model.specs.Lists.{total}
+use Rattle.words.specs.Lists.{total}
 use Rattle.screen_model.specs.Obeys.{Priced, rise, Obeys}
 use Rattle.screen_model.specs.Cost.{above_zero, payment}
 use Rattle.screen_model.specs.Flow.{Stream, is_same_side, is_same_name, amount_on}

@@ -8,7 +8,7 @@ use Rattle.screen_model.specs.declared.place.Place.{Place}
 use Rattle.screen_model.specs.declared.place.End.{End}
 use Rattle.screen_model.specs.declared.place.End.TheVariants.{Zero, At}
 use Rattle.screen_model.specs.Series.{is_same_place, reading_at, value_at}
-use Rattle.screen_model.specs.Lists.{Distinct, total}
+use Rattle.words.specs.Lists.{Distinct, total}
 use Rattle.screen_model.specs.Obeys.{rise}
 use Rattle.screen_model.specs.Cost.{weighted_change}
 use Rattle.screen_model.specs.Flow.{Stream, amount_at, pull, PullsWithin, pulled}

@@ -2,7 +2,7 @@
 use Rattle.std.specs.Prelude.{◌≡◌, ◌≤◌, ℤ, pos, negsuc, ◌≤ℤ◌, List, length, map, Contains}
 use Rattle.std.specs.List.{AllByRecursion}
 use Rattle.screen_model.specs.declared.place.Place.{Place}
-use Rattle.screen_model.specs.Lists.{Distinct, rotated, total}
+use Rattle.words.specs.Lists.{Distinct, rotated, total}
 use Rattle.screen_model.specs.Obeys.{Priced, Obeys}
 use Rattle.screen_model.specs.Cost.{Problem, IsProblem, IsSeries, cost}
 use Rattle.screen_model.specs.Flow.{Stream, IsAdmissible, dual_value}

@@ -1,7 +1,7 @@
 -- What a series costs: its change, and what it pays for the bounds that it breaks.
 use Rattle.std.specs.Prelude.{◌≡◌, ℕ, ◌+◌, ◌*◌, ℤ, pos, negsuc, ◌-ℤ◌, List, [], ◌∷◌, length, map, sum, unsigned_abs}
 use Rattle.screen_model.specs.declared.place.Place.{Place}
-use Rattle.screen_model.specs.Lists.{Distinct}
+use Rattle.words.specs.Lists.{Distinct}
 use Rattle.screen_model.specs.Obeys.{Priced, rise}
 
 -- What is to be repaired: a place, a value and a weight for each reading, and the bounds.

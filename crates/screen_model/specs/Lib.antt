@@ -1,6 +1,5 @@
 pub mod Best
 pub mod Cost
 pub mod Flow
-pub mod Lists
 pub mod Obeys
 pub mod Series

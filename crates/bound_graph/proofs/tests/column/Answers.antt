@@ -2,7 +2,7 @@ use Rattle.std.proofs.Common.{◌≡◌, ◌≢◌, ℕ, ◌+◌, ◌≤◌, Lis
 use Rattle.std.specs.List.{AllByRecursion}
 use Rattle.std.proofs.lemmas.List.{length_push}
 use Rattle.screen_model.specs.declared.place.Place.{Place}
-use Rattle.screen_model.specs.Lists.{Distinct}
+use Rattle.words.specs.Lists.{Distinct}
 use Rattle.bound_graph.proofs.Lists.{all_push}
 use Rattle.bound_graph.proofs.tests.column.Goals as goal
 

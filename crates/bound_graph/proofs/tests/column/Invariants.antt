@@ -1,6 +1,6 @@
 use Rattle.std.proofs.Common.{◌≡◌, ◌≤◌, length}
 use Rattle.std.specs.List.{AllByRecursion}
-use Rattle.screen_model.specs.Lists.{Distinct}
+use Rattle.words.specs.Lists.{Distinct}
 use Rattle.bound_graph.proofs.tests.column.Given as goal
 
 abbrev pub invariant-loop-i : goal.invariant-loop-i

@@ -1,4 +1,4 @@
--- Words on lists.
+-- To be believed: words on lists.
 use Rattle.std.specs.Prelude.{◌≢◌, ℤ, pos, ◌+ℤ◌, List, [], ◌∷◌, ◌++◌}
 use Rattle.std.specs.List.{AllByRecursion}
 
