@@ -2,7 +2,9 @@ pub mod WholeNumbers
 pub mod BoundLaws
 pub mod Floor
 pub mod Pairs
-pub mod WholeReads
 pub mod Rising
-pub mod OneOutcome
-pub mod Tells
+pub mod AfterFile
+pub mod AnswerLaws
+pub mod NarrowOne
+pub mod Steps
+pub mod Due

@@ -9,16 +9,19 @@ mod command;
 mod ends;
 mod files;
 mod global;
+mod laws;
 mod narrow;
 mod note;
 mod program;
+mod reply;
 mod speed;
 mod status;
+mod step;
 #[cfg(test)]
 mod tests;
 
 pub use command::{Command, roles};
 pub use ends::{EndUse, Inputs, Outputs, Roles};
-pub use global::one_outcome;
+pub use laws::{one_ending, rests_on_read};
 pub use program::run;
 pub use status::{Ending, Status};

@@ -1,14 +1,21 @@
-ghost use Rattle.std.specs.Prelude.{◌≡◌, ◌≢◌, ◌⊎◌, ◌↔◌, Some, None};
-ghost use Rattle.screen_tool.specs.Command.{command_of, texts};
+//! What the program does with its words, its sources and its sinks.
+ghost use Rattle.std.specs.Prelude.{◌≡◌, ◌≢◌, ◌↔◌, Some, None, Err, IfOk, MatchResult};
+ghost use Rattle.screen_tool.specs.Answer.{Answer};
+ghost use Rattle.screen_tool.specs.Command.{command_of, roles_of, texts};
 ghost use Rattle.screen_tool.specs.Ending.{status_of};
-ghost use Rattle.screen_tool.specs.Run.{AnswersFiles, EndsGlobal, FailsToRead, FailsToWrite, IsFaultless, NotesEnding, StopsAtRules, WritesNothing};
+ghost use Rattle.screen_tool.specs.Headline.{Headline};
+ghost use Rattle.screen_tool.specs.Note.{note_text};
+ghost use Rattle.screen_tool.specs.Performance.{AreCut, AreWritten, IsDue, IsNoted, LeavesUnused, Performs};
+ghost use Rattle.screen_tool.specs.Step.{Ends, IsReplyOf, Replies};
 
 use crate::command::{Command, command_from};
 use crate::ends::{Inputs, Outputs};
-use crate::global::{global, one_outcome};
+use crate::global::global;
+use crate::laws::{files_are_one, one_ending, rests_on_read};
 use crate::note::note_of;
+use crate::reply::{Reply, write_text};
 use crate::status::{Ending, Status};
-use screen_io::{Sink, Source, write_all_of};
+use screen_io::{Failed, Sink, Source, write_all_of};
 use std::alloc::Global;
 
 /// Does what the words ask for. They do not hold the program's name.
@@ -17,75 +24,87 @@ use std::alloc::Global;
 /// repaired readings. For now it writes the readings as they are where they obey the rules, and answers
 /// [`Status::NeedsRepair`] where they do not.
 ///
-/// Apart from want of memory and counted faults the status tells what the two files are. With every
-/// status but [`Status::Done`] and [`Status::WriteFault`] nothing is written but the note.
+/// Every text is made before the first is written. A note that can't be written changes nothing.
 pub fn run<S: Source, K: Sink>(
     alloc: Global,
     words: &[String],
     ins: &mut Inputs<S>,
     outs: &mut Outputs<K>,
 ) -> Status
-    // The words are no form of a command.
+    // The words ask for no command.
     ensures usage { (result ≡ Status.Usage) ↔ (command_of (texts words.now) ≡ None) }
 
-    // A failure is answered only where a source or sink that the command uses has counted a fault, and a
-    // refusal of the rules before the readings are begun.
-    ensures read_fault { result ≡ Status.ReadFault →
-        FailsToRead S.left S.faults ins.old.rules ins.new.rules ins.old.readings ins.new.readings }
-    ensures rules_refused { result ≡ Status.RulesRefused →
-        StopsAtRules S.left S.faults ins.old.rules ins.old.readings ins.new.readings }
-    ensures write_fault { result ≡ Status.WriteFault →
-        FailsToWrite K.faults outs.old.cert outs.new.cert outs.old.out outs.new.out }
+    // How the run ends: that is the status, it is noted, and the sources and sinks are left as it says.
+    ensures performs { (ending : Ending) × (result ≡ status_of ending)
+        × IsNoted K.held K.faults (note_text ending) outs.old.note outs.new.note
+        × Performs S.left S.faults K.held K.faults (command_of (texts words.now)) ins.old ins.new outs.old outs.new ending }
+    ensures unused { LeavesUnused (roles_of (command_of (texts words.now))) ins.old ins.new outs.old outs.new }
 
-    // Where all was written no end has counted a fault.
-    ensures faultless { result ≡ Status.Done → IsFaultless S.faults K.faults ins.old ins.new outs.old outs.new }
+    // What is due is answered, apart from counted faults and want of memory.
+    ensures due { IsDue S.left (command_of (texts words.now)) ins.old result }
 
-    // The status is that of an ending, which the note tells, and which tells what the files are and what
-    // is written.
-    ensures ending { (ending : Ending) × (result ≡ status_of ending)
-        × NotesEnding K.held K.faults outs.old outs.new ending
-        × (command_of (texts words.now) ≡ Some Command.Global → EndsGlobal S.left K.held ins.old ins.new outs.old outs.new ending) }
-
-    // What two files come to is one thing only, and so is the status.
-    ensures only { command_of (texts words.now) ≡ Some Command.Global → AnswersFiles S.left ins.old result }
-
-    // What is not used is left alone.
-    ensures kept { result ≢ Status.Done → result ≢ Status.WriteFault → WritesNothing outs.old outs.new }
-    ensures idle { result ≡ Status.Usage → ins.new ≡ ins.old }
-    ensures unread { ins.new.cert ≡ ins.old.cert }
+    // What the program is for.
+    ensures headline { command_of (texts words.now) ≡ Some Command.Global →
+        Headline S.left K.held ins.old outs.old outs.new result }
 {
-    // The law behind `only`; it does nothing.
-    one_outcome();
-    let ending = ending_of(alloc, words, ins, outs);
+    // The laws behind `due` and `headline`; they do nothing.
+    files_are_one();
+    one_ending();
+    rests_on_read();
+    let ending = ending_of(alloc, command_from(words), ins, outs);
     let note = note_of(&ending);
-    // A note that can't be written changes nothing.
     let _ = write_all_of(&mut outs.note, note.as_str().as_bytes());
     ending.status()
 }
 
-// Does what the words ask for, but for the note.
+/// Does what the command asks for, but for the note.
 fn ending_of<S: Source, K: Sink>(
     alloc: Global,
-    words: &[String],
+    command: Option<Command>,
     ins: &mut Inputs<S>,
     outs: &mut Outputs<K>,
 ) -> Ending
-    ensures usage { (result ≡ Ending.Usage) ↔ (command_of (texts words.now) ≡ None) }
-    ensures read_fault { result ≡ Ending.ReadFault →
-        FailsToRead S.left S.faults ins.old.rules ins.new.rules ins.old.readings ins.new.readings }
-    ensures rules_refused { status_of result ≡ Status.RulesRefused →
-        StopsAtRules S.left S.faults ins.old.rules ins.old.readings ins.new.readings }
-    ensures write_fault { result ≡ Ending.WriteFault →
-        FailsToWrite K.faults outs.old.cert outs.new.cert outs.old.out outs.new.out }
-    ensures faultless { result ≡ Ending.Done → IsFaultless S.faults K.faults ins.old ins.new outs.old outs.new }
-    ensures told { command_of (texts words.now) ≡ Some Command.Global → EndsGlobal S.left K.held ins.old ins.new outs.old outs.new result }
-    ensures kept { result ≢ Ending.Done → result ≢ Ending.WriteFault → WritesNothing outs.old outs.new }
-    ensures idle { result ≡ Ending.Usage → ins.new ≡ ins.old }
-    ensures unread { ins.new.cert ≡ ins.old.cert }
+    ensures performs { Performs S.left S.faults K.held K.faults command ins.old ins.new outs.old outs.new result }
+    ensures usage { (result ≡ Ending.Usage) ↔ (command ≡ None) }
+    ensures unused { LeavesUnused (roles_of command) ins.old ins.new outs.old outs.new }
     ensures note { outs.new.note ≡ outs.old.note }
 {
-    match command_from(words) {
-        Some(Command::Global) => global(alloc, ins, outs),
-        None => Ending::Usage,
+    match reply_of(alloc, command, ins) {
+        Ok(reply) => match write_reply(&reply, outs) {
+            Ok(()) => reply.ending,
+            Err(Failed) => Ending::WriteFault,
+        },
+        Err(ending) => ending,
     }
+}
+
+/// Reads what the command reads, and makes its texts.
+fn reply_of<S: Source>(
+    alloc: Global,
+    command: Option<Command>,
+    ins: &mut Inputs<S>,
+) -> Result<Reply, Ending>
+    ensures answer { MatchResult result
+        (Replies S.left S.faults command ins.old ins.new)
+        (Ends S.left S.faults command ins.old ins.new) }
+    ensures usage { (result ≡ Err Ending.Usage) ↔ (command ≡ None) }
+    ensures done { IfOk result (λ reply. reply.ending ≢ Ending.Usage) }
+    ensures unread { ins.new.cert ≡ ins.old.cert }
+    ensures idle { command ≡ None → ins.new ≡ ins.old }
+{
+    match command {
+        Some(Command::Global) => global(alloc, ins),
+        None => Err(Ending::Usage),
+    }
+}
+
+/// Writes the certificate, and then the text.
+fn write_reply<K: Sink>(reply: &Reply, outs: &mut Outputs<K>) -> Result<(), Failed>
+    ensures texts { (answer : Answer) → IsReplyOf answer reply.now → MatchResult result
+        (λ _. AreWritten K.held K.faults answer outs.old outs.new)
+        (λ _. AreCut K.held K.faults answer outs.old outs.new) }
+    ensures note { outs.new.note ≡ outs.old.note }
+{
+    write_text(&mut outs.cert, &reply.cert)?;
+    write_text(&mut outs.out, &reply.out)
 }

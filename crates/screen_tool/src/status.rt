@@ -1,8 +1,10 @@
+//! How a run ends.
 ghost use Rattle.std.specs.Prelude.{◌≡◌};
 ghost use Rattle.screen_tool.specs.Ending.{code_of, status_of};
 
-use rule_file::RuleFault;
-use series_csv::TableFault;
+use crate::step::StepFault;
+use rule_file::{RuleCause, RuleFault};
+use series_csv::{TableCause, TableFault};
 use std::alloc::AllocError;
 
 /// How a run ended, as its exit status tells it.
@@ -91,5 +93,44 @@ impl From<AllocError> for Ending {
 
     fn from(_: AllocError) -> Ending {
         Ending::Memory
+    }
+}
+
+impl From<StepFault<RuleFault>> for Ending {
+    ghost use Rattle.std.specs.Prelude.{◌≡◌};
+    ghost use Rattle.screen_tool.specs.Step.{rules_ending};
+
+    ghost from_gives = { λ fault ending. ending ≡ rules_ending fault };
+
+    fn from(fault: StepFault<RuleFault>) -> Ending {
+        match fault {
+            StepFault::TooLong => Ending::RulesRefused(RuleFault {
+                cause: RuleCause::FileTooLong,
+                rule: 0,
+            }),
+            StepFault::Refused(fault) => Ending::RulesRefused(fault),
+            StepFault::Failed => Ending::ReadFault,
+            StepFault::Memory => Ending::Memory,
+        }
+    }
+}
+
+impl From<StepFault<TableFault>> for Ending {
+    ghost use Rattle.std.specs.Prelude.{◌≡◌};
+    ghost use Rattle.screen_tool.specs.Step.{readings_ending};
+
+    ghost from_gives = { λ fault ending. ending ≡ readings_ending fault };
+
+    fn from(fault: StepFault<TableFault>) -> Ending {
+        match fault {
+            StepFault::TooLong => Ending::ReadingsRefused(TableFault {
+                cause: TableCause::FileTooLong,
+                row: 0,
+                col: 0,
+            }),
+            StepFault::Refused(fault) => Ending::ReadingsRefused(fault),
+            StepFault::Failed => Ending::ReadFault,
+            StepFault::Memory => Ending::Memory,
+        }
     }
 }

@@ -1,0 +1,165 @@
+-- From the steps of a command to what it performs.
+use Rattle.std.proofs.Common.{◌≡◌, ◌≢◌, ◌⊎◌, inl, inr, ℕ, ◌≤◌, ◌<◌, ◌↔◌, Bool, true, false, IsTrue, List, [], ◌++◌, length, Option, Some, None, Result, Ok, Err, OnOk, OnErr, MatchResult, Vec, refl, sym, ap, subst, ◌∙◌}
+use Rattle.std.specs.declared.alloc.Global.{Global as Heap}
+use Rattle.std.proofs.lemmas.Bool.{false≢true}
+use Rattle.std.proofs.lemmas.List.{append-nil}
+use Rattle.screen_io.specs.Faults.{Rose, HasCause}
+use Rattle.screen_io.specs.Sink.{Gains, GainsPrefix}
+use Rattle.screen_io.specs.Source.{Takes, IsAtEnd}
+use Rattle.screen_io.specs.declared.source.Failed.{Failed}
+use Rattle.rule_file.specs.declared.fault.RuleFault.{RuleFault}
+use Rattle.rule_file.specs.Reading.{longest as longest_rules}
+use Rattle.series_csv.specs.declared.fault.TableFault.{TableFault}
+use Rattle.series_csv.specs.declared.table.Row.{Row}
+use Rattle.series_csv.specs.Reading.{longest as longest_readings, IsAnswer as ReadsReadings}
+use Rattle.series_csv.specs.Rows.{places, values}
+use Rattle.screen_model.specs.Obeys.{Obeys, without_prices}
+use Rattle.screen_tool.specs.declared.command.Command.{Command}
+use Rattle.screen_tool.specs.declared.command.Command.TheVariants.{Global}
+use Rattle.screen_tool.specs.declared.ends.Inputs.{Inputs}
+use Rattle.screen_tool.specs.declared.ends.Outputs.{Outputs}
+use Rattle.screen_tool.specs.declared.reply.Reply.{Reply}
+use Rattle.screen_tool.specs.declared.speed.WholeSpeed.{WholeSpeed}
+use Rattle.screen_tool.specs.declared.status.Ending.{Ending}
+use Rattle.screen_tool.specs.declared.status.Ending.TheVariants as ending
+use Rattle.screen_tool.specs.declared.step.StepFault.{StepFault}
+use Rattle.screen_tool.specs.declared.step.StepFault.TheVariants as fault
+use Rattle.screen_tool.specs.Answer.{Extent, Whole, Begun, Unread, Answer}
+use Rattle.screen_tool.specs.Answers.{Answers, usage}
+use Rattle.screen_tool.specs.Bounds.{bounds}
+use Rattle.screen_tool.specs.Files.{RulesAreOne, rules_too_long, rules_refused, readings_too_long, readings_refused}
+use Rattle.screen_tool.specs.Global.{AnswersGlobal, AnswersRows, ReadingsObey, unchanged, needs_repair}
+use Rattle.screen_tool.specs.Narrow.{IsAnswer as ReadsRules}
+use Rattle.screen_tool.specs.Performance.{IsRead, AreRead, IsAnswered, Stops, CountsNoFault, LeavesSinks, IsWritten, IsCut, AreWritten, AreCut, IsNoted, Performs}
+use Rattle.screen_tool.specs.Step.{IsFound, IsStep, WasRead, IsReplyOf, Replies, Ends, rules_ending, readings_ending}
+use Rattle.screen_tool.proofs.AnswerLaws.{IsProper, needs_rules, needs_readings}
+
+-- ---- a file that was read, and what was found in it
+
+module _ {S : Type 0} (left : S → Option (List ℕ)) (source_faults : S → ℕ) where
+  pub step_found : {A F : Type 0} (longest : ℕ) (Reads : List ℕ → Result A F → Type 0) (source now : S) (came seen : List ℕ) (answer : Result A (StepFault F))
+      → IsRead left source_faults Whole source now came → length came ≤ longest → seen ≡ came → IsFound Reads seen answer
+      → IsStep left source_faults longest Reads source now answer
+  step_found longest Reads source now came seen (Ok value) whole short same found = (came, whole, short, subst (λ (b : List ℕ). Reads b (Ok value)) same found)
+  step_found longest Reads source now came seen (Err (fault.Refused f)) whole short same found = (came, whole, short, subst (λ (b : List ℕ). Reads b (Err f)) same found)
+  step_found longest Reads source now came seen (Err fault.Memory) whole short same found = whole.2
+  step_found longest Reads source now came seen (Err fault.TooLong) whole short same found = absurd found
+  step_found longest Reads source now came seen (Err fault.Failed) whole short same found = absurd found
+
+  pub step_unread : {A F : Type 0} (longest : ℕ) (Reads : List ℕ → Result A F → Type 0) (source now : S) (given : StepFault F)
+      → WasRead left source_faults longest source now (Err given) → IsStep left source_faults longest Reads source now (Err given)
+  step_unread longest Reads source now fault.TooLong p = p
+  step_unread longest Reads source now fault.Failed p = p
+  step_unread longest Reads source now fault.Memory p = p
+  step_unread longest Reads source now (fault.Refused f) p = absurd p
+
+  -- ---- how `global` ends at a fault of its steps
+
+  pub rules_end : (ins : Inputs S) (rules : S) (given : StepFault RuleFault) → IsStep left source_faults longest_rules ReadsRules ins.rules rules (Err given)
+      → Ends left source_faults (Some Global) ins (record ins { rules = rules }) (rules_ending given)
+  rules_end ins rules fault.TooLong p = (
+    rules_too_long,
+    refl,
+    refl,
+    refl,
+    (record { rules = p.0; readings = []; cert = [] }, inl (p.2, refl), (p.1, refl, refl)),
+  )
+  rules_end ins rules (fault.Refused f) p = (
+    rules_refused f,
+    refl,
+    refl,
+    refl,
+    (record { rules = p.0; readings = []; cert = [] }, inr (p.2, Err f, p.3, refl), (p.1, refl, refl)),
+  )
+  rules_end ins rules fault.Failed p = inl (record { needed = needs_rules; rose = p; readings = refl; cert = refl })
+  rules_end ins rules fault.Memory p = record { rules = p; readings = refl; cert = refl }
+
+  pub readings_end : RulesAreOne → (ins : Inputs S) (rules readings : S) (found : WholeSpeed) (given : StepFault TableFault)
+      → IsStep left source_faults longest_rules ReadsRules ins.rules rules (Ok found)
+      → IsStep left source_faults longest_readings (ReadsReadings found.sensor) ins.readings readings (Err given)
+      → Ends left source_faults (Some Global) ins (record ins { rules = rules; readings = readings }) (readings_ending given)
+  readings_end law ins rules readings found fault.TooLong q p = (
+    readings_too_long,
+    refl,
+    refl,
+    refl,
+    (record { rules = q.0; readings = p.0; cert = [] }, inr (q.2, Ok found, q.3, inl (p.2, refl)), (q.1, p.1, refl)),
+  )
+  readings_end law ins rules readings found (fault.Refused f) q p = (
+    readings_refused f,
+    refl,
+    refl,
+    refl,
+    (record { rules = q.0; readings = p.0; cert = [] }, inr (q.2, Ok found, q.3, inr (p.2, Err f, p.3, refl)), (q.1, p.1, refl)),
+  )
+  readings_end law ins rules readings found fault.Failed q p =
+      inr (inl (record { came = q.0; rules = q.1; needed = needs_readings law q.0 found q.2 q.3; rose = p; cert = refl }))
+  readings_end law ins rules readings found fault.Memory q p = record { rules = q.1.2; readings = p; cert = refl }
+
+  -- both files are accepted
+  pub rows_answered : (ins : Inputs S) (rules readings : S) (found : WholeSpeed) (rows : List Row) (answer : Answer)
+      → IsStep left source_faults longest_rules ReadsRules ins.rules rules (Ok found)
+      → IsStep left source_faults longest_readings (ReadsReadings found.sensor) ins.readings readings (Ok rows)
+      → answer.read ≡ record { rules = Whole; readings = Whole; cert = Unread } → AnswersRows found rows answer
+      → IsAnswered left source_faults (Some Global) ins (record ins { rules = rules; readings = readings }) answer
+  rows_answered ins rules readings found rows answer q p extents given = (
+    record { rules = q.0; readings = p.0; cert = [] },
+    inr (q.2, Ok found, q.3, inr (p.2, Ok rows, p.3, given)),
+    subst
+        (λ (read : Inputs Extent). AreRead left source_faults read ins (record ins { rules = rules; readings = readings }) (record { rules = q.0; readings = p.0; cert = [] }))
+        (sym extents) (q.1, p.1, refl),
+  )
+
+-- ---- what is written
+
+module _ {S K : Type 0} (left : S → Option (List ℕ)) (source_faults : S → ℕ) (held : K → Option (List ℕ)) (sink_faults : K → ℕ) where
+  nothing_written : (text : Option (List ℕ)) (sink now : K) → text ≡ None → now ≡ sink → IsWritten held sink_faults text sink now
+  nothing_written text sink now p same = subst (λ (t : Option (List ℕ)). IsWritten held sink_faults t sink now) (sym p) same
+
+  pub proper_performs : (command : Option Command) (ins ins_now : Inputs S) (outs outs_now : Outputs K) (how : Ending) → IsProper how
+      → (answer : Answer) → answer.ending ≡ how → IsAnswered left source_faults command ins ins_now answer → AreWritten held sink_faults answer outs outs_now
+      → Performs left source_faults held sink_faults command ins ins_now outs outs_now how
+  proper_performs command ins ins_now outs outs_now ending.Done proper answer p q r = (answer, p, q, r)
+  proper_performs command ins ins_now outs outs_now ending.Usage proper answer p q r = (answer, p, q, r)
+  proper_performs command ins ins_now outs outs_now (ending.RulesRefused f) proper answer p q r = (answer, p, q, r)
+  proper_performs command ins ins_now outs outs_now (ending.ReadingsRefused f) proper answer p q r = (answer, p, q, r)
+  proper_performs command ins ins_now outs outs_now ending.NeedsRepair proper answer p q r = (answer, p, q, r)
+  proper_performs command ins ins_now outs outs_now ending.ReadFault proper answer p q r = absurd proper
+  proper_performs command ins ins_now outs outs_now ending.WriteFault proper answer p q r = absurd proper
+  proper_performs command ins ins_now outs outs_now ending.Memory proper answer p q r = absurd proper
+
+  pub ends_performs : (command : Option Command) (ins ins_now : Inputs S) (outs outs_now : Outputs K) (how : Ending)
+      → LeavesSinks outs outs_now → Ends left source_faults command ins ins_now how
+      → Performs left source_faults held sink_faults command ins ins_now outs outs_now how
+  ends_performs command ins ins_now outs outs_now ending.ReadFault same p = (p, same)
+  ends_performs command ins ins_now outs outs_now ending.Memory same p = (p, same)
+  ends_performs command ins ins_now outs outs_now ending.WriteFault same p = absurd p
+  ends_performs command ins ins_now outs outs_now ending.Done same p =
+      (p.0, p.1, p.4, (nothing_written p.0.cert outs.cert outs_now.cert p.2 same.0, nothing_written p.0.out outs.out outs_now.out p.3 same.1))
+  ends_performs command ins ins_now outs outs_now ending.Usage same p =
+      (p.0, p.1, p.4, (nothing_written p.0.cert outs.cert outs_now.cert p.2 same.0, nothing_written p.0.out outs.out outs_now.out p.3 same.1))
+  ends_performs command ins ins_now outs outs_now (ending.RulesRefused f) same p =
+      (p.0, p.1, p.4, (nothing_written p.0.cert outs.cert outs_now.cert p.2 same.0, nothing_written p.0.out outs.out outs_now.out p.3 same.1))
+  ends_performs command ins ins_now outs outs_now (ending.ReadingsRefused f) same p =
+      (p.0, p.1, p.4, (nothing_written p.0.cert outs.cert outs_now.cert p.2 same.0, nothing_written p.0.out outs.out outs_now.out p.3 same.1))
+  ends_performs command ins ins_now outs outs_now ending.NeedsRepair same p =
+      (p.0, p.1, p.4, (nothing_written p.0.cert outs.cert outs_now.cert p.2 same.0, nothing_written p.0.out outs.out outs_now.out p.3 same.1))
+
+module _ {K : Type 0} (held : K → Option (List ℕ)) (sink_faults : K → ℕ) where
+  pub noted : (note seen : List ℕ) (sink now : K) (result : Result (Unit {0}) Failed) → seen ≡ note
+      → OnOk result (Gains (held sink) seen (held now)) → OnErr result (GainsPrefix (held sink) seen (held now))
+      → HasCause (sink_faults sink) (sink_faults now) result → IsNoted held sink_faults note sink now
+  noted note seen sink now (Ok x) same whole part cause = inl (subst (λ (t : List ℕ). Gains (held sink) t (held now)) same whole)
+  noted note seen sink now (Err e) same whole part cause = inr (subst (λ (t : List ℕ). GainsPrefix (held sink) t (held now)) same part, cause.failed)
+
+-- ---- the test of the bounds, over the rows as it saw them
+
+abbrev pub Tests : WholeSpeed → List Row → Bool → Type 0
+Tests found rows test = IsTrue test ↔ Obeys (places rows) (values rows) (without_prices (bounds found rows))
+
+pub obeys_from_test : (found : WholeSpeed) (rows seen : List Row) (test : Bool) → seen ≡ rows → Tests found seen test → test ≡ true → ReadingsObey found rows
+obeys_from_test found rows seen test same tests passes = subst (λ (r : List Row). ReadingsObey found r) same (tests.0 passes)
+
+pub disobeys_from_test : (found : WholeSpeed) (rows seen : List Row) (test : Bool) → seen ≡ rows → Tests found seen test → test ≡ false → ¬ ReadingsObey found rows
+disobeys_from_test found rows seen test same tests fails =
+    λ obeys. absurd (false≢true (sym fails ∙ tests.1 (subst (λ (r : List Row). ReadingsObey found r) (sym same) obeys)))

@@ -1,0 +1,51 @@
+-- To be believed: what every command answers where its rules or its readings are refused.
+use Rattle.std.specs.Prelude.{◌≡◌, ℕ, List, Option, None, Result}
+use Rattle.rule_file.specs.declared.fault.RuleFault.{RuleFault}
+use Rattle.rule_file.specs.Document.{of_the_file}
+use Rattle.rule_file.specs.Reading.{longest as longest_rules}
+use Rattle.rule_keys.specs.declared.cause.RuleCause.TheVariants as rules
+use Rattle.series_csv.specs.declared.fault.TableFault.{TableFault}
+use Rattle.series_csv.specs.declared.fault.TableCause.TheVariants as readings
+use Rattle.series_csv.specs.declared.table.Row.{Row}
+use Rattle.series_csv.specs.Reading.{longest as longest_readings, IsAnswer as ReadsReadings}
+use Rattle.screen_tool.specs.declared.speed.WholeSpeed.{WholeSpeed}
+use Rattle.screen_tool.specs.declared.status.Ending.{Ending}
+use Rattle.screen_tool.specs.declared.status.Ending.TheVariants.{RulesRefused, ReadingsRefused}
+use Rattle.screen_tool.specs.Answer.{Extent, Whole, Begun, Unread, Answer, AfterFile, AreOne}
+use Rattle.screen_tool.specs.Narrow.{IsAnswer as ReadsRules}
+
+-- The answer that writes nothing, with how far the rules and the readings are read. No certificate is read.
+abbrev pub says : Ending → Extent → Extent → Answer
+says ending rules readings = record {
+  ending = ending;
+  read = record { rules = rules; readings = readings; cert = Unread };
+  cert = None;
+  out = None;
+}
+
+abbrev pub rules_too_long : Answer
+rules_too_long = says (RulesRefused (of_the_file rules.FileTooLong)) Begun Unread
+
+abbrev pub rules_refused : RuleFault → Answer
+rules_refused fault = says (RulesRefused fault) Whole Unread
+
+abbrev pub readings_too_long : Answer
+readings_too_long = says (ReadingsRefused (record { cause = readings.FileTooLong; row = 0; col = 0 })) Whole Begun
+
+abbrev pub readings_refused : TableFault → Answer
+readings_refused fault = says (ReadingsRefused fault) Whole Whole
+
+-- The rules come first, and the readings are not begun unless they are accepted.
+abbrev pub AfterRules : List ℕ → (WholeSpeed → Answer → Type 0) → Answer → Type 0
+AfterRules = AfterFile longest_rules ReadsRules rules_too_long rules_refused
+
+-- The readings are read by accepted rules.
+abbrev pub AfterReadings : WholeSpeed → List ℕ → (List Row → Answer → Type 0) → Answer → Type 0
+AfterReadings found = AfterFile longest_readings (ReadsReadings found.sensor) readings_too_long readings_refused
+
+-- The rules are read as one thing only, and so are the readings of a sensor.
+abbrev pub RulesAreOne : Type 0
+RulesAreOne = AreOne ReadsRules
+
+abbrev pub ReadingsAreOne : Type 0
+ReadingsAreOne = (sensor : List ℕ) → AreOne (ReadsReadings sensor)

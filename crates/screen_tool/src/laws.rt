@@ -1,0 +1,24 @@
+//! Laws of what the commands answer.
+ghost use Rattle.screen_tool.specs.Answers.{OneEnding, RestsOnRead};
+ghost use Rattle.screen_tool.specs.Files.{RulesAreOne, ReadingsAreOne};
+
+/// The rules are read as one thing only, and so are the readings.
+pub(crate) fn files_are_one()
+    ensures rules { RulesAreOne }
+    ensures readings { ReadingsAreOne }
+{
+    rule_file::one_answer();
+    series_csv::one_answer();
+}
+
+/// A command ends in one way only, whatever its sources hold and whatever text it may choose.
+pub fn one_ending()
+    ensures { OneEnding }
+{
+    files_are_one();
+}
+
+/// An answer rests on no more of the sources than it reads.
+pub fn rests_on_read()
+    ensures { RestsOnRead }
+{}

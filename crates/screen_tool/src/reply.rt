@@ -1,0 +1,28 @@
+//! What a command has to say and to write, and how that is written.
+ghost use Rattle.std.specs.Prelude.{◌≡◌, Option, List, ℕ, OnOk, OnErr, option_map};
+ghost use Rattle.screen_tool.specs.Performance.{IsCut, IsWritten};
+
+use crate::status::Ending;
+use screen_io::{Failed, Sink, write_all_of};
+
+/// How a command ends, and the texts that it writes.
+#[derive(Drop)]
+pub(crate) struct Reply {
+    /// How it ends where every text is written.
+    pub(crate) ending: Ending,
+    /// The certificate, if one is written.
+    pub(crate) cert: Option<Vec<u8>>,
+    /// What goes to the output, if anything does.
+    pub(crate) out: Option<Vec<u8>>,
+}
+
+/// Writes a text, if there is one.
+pub(crate) fn write_text<K: Sink>(sink: &mut K, text: &Option<Vec<u8>>) -> Result<(), Failed>
+    ensures whole { OnOk result (IsWritten K.held K.faults (option_map (λ bytes. bytes.items) text.now) sink.old sink.new) }
+    ensures part { OnErr result (IsCut K.held K.faults (option_map (λ bytes. bytes.items) text.now) sink.old sink.new) }
+{
+    match text {
+        Some(bytes) => write_all_of(sink, bytes.as_slice()),
+        None => Ok(()),
+    }
+}
