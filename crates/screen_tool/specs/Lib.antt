@@ -7,5 +7,6 @@ pub mod Limits
 pub mod Narrow
 pub mod Note
 pub mod Numbers
+pub mod RealEnds
 pub mod Run
 pub mod Steps
