@@ -1,3 +1,4 @@
+//! A source in memory that never fails.
 ghost use Rattle.std.specs.Prelude.{◌≡◌, ◌≤◌, min, length, Some};
 ghost use Rattle.screen_io.specs.Source.{Reads};
 

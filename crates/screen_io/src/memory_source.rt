@@ -1,3 +1,4 @@
+//! A source in memory that fails where it is told to.
 ghost use Rattle.std.specs.Prelude.{◌≤◌};
 
 use crate::calls::Calls;

@@ -1,3 +1,4 @@
+//! Reading a source to its end, within a limit.
 ghost use Rattle.std.specs.Prelude.{◌≡◌, ◌≢◌, ◌+◌, ◌<◌, ◌≤◌, List, ℕ, length, Err, IfOk, OnErr, IsErrOf};
 ghost use Rattle.screen_io.specs.Faults.{Rose};
 ghost use Rattle.screen_io.specs.Source.{Takes, IsAtEnd};

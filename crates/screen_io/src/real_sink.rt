@@ -1,3 +1,4 @@
+//! Sinks over files and standard streams: the only code that writes to the world.
 ghost use Rattle.std.specs.Prelude.{◌≡◌, ◌+◌, ◌-◌, ◌^◌, ◌≤◌, min, length, string_bytes, Ok, IfOk, IsOk};
 ghost use Rattle.screen_io.specs.Target.{fresh, FileNamed, StandardOutput, StandardError, NoTarget};
 ghost use Rattle.screen_io.specs.Ends.{sink_target};
@@ -28,8 +29,11 @@ pub struct RealSink<R: Runtime> {
 enum End<R: Runtime> {
     /// The file of this name, which is created at the first write.
     File(R, String, Option<R::File>),
+    /// Standard output.
     Output(R),
+    /// Standard error.
     Error(R),
+    /// Nowhere.
     Nothing,
 }
 

@@ -1,3 +1,4 @@
+//! Sources over files and standard input: the only code that reads from the world.
 ghost use Rattle.std.specs.Prelude.{◌≡◌, ◌≤◌, length, string_bytes, Ok, IfOk};
 ghost use Rattle.screen_io.specs.Target.{fresh, FileNamed, StandardInput, NoTarget};
 ghost use Rattle.screen_io.specs.Ends.{source_target};
@@ -23,7 +24,9 @@ pub struct RealSource<R: Runtime> {
 enum End<R: Runtime> {
     /// The file of this name, which is opened at the first call.
     File(R, String, Option<R::File>),
+    /// Standard input.
     Input(R::Reader),
+    /// No bytes.
     Nothing,
 }
 

@@ -1,4 +1,5 @@
-ghost use Rattle.std.specs.Prelude.{◌≡◌, ◌≢◌, ◌<◌, ◌≤◌, length, Err, IfOk};
+//! What no clause says: that calls succeed, and what files and streams do.
+ghost use Rattle.std.specs.Prelude.{◌≡◌, ◌≢◌, ◌<◌, length, Err, IfOk};
 
 use crate::{
     Failed, HonestSource, MemSink, MemSource, ReadFault, RealSink, RealSource, Sink, Source,
