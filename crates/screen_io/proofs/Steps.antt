@@ -1,5 +1,5 @@
 -- How the steps of a loop over a source or a sink add up.
-use Rattle.std.proofs.Common.{ℕ, ◌+◌, ◌-◌, ◌≤◌, List, [], ◌++◌, length, take, drop, refl, sym, ◌∙◌, ap, append_assoc, append-nil, arith, length-drop, length-append}
+use Rattle.std.proofs.Common.{ℕ, ◌+◌, ◌-◌, ◌<◌, ◌≤◌, List, [], ◌++◌, length, take, drop, refl, sym, ◌∙◌, ap, append_assoc, append-nil, arith, length-drop, length-append}
 use Rattle.std.proofs.Math.Seq.{take-add}
 use Rattle.std.proofs.lemmas.List.{take_all, take-append-le, take-append-drop, length-take-le, nil_from_length, drop-drop}
 use Rattle.std.specs.Prelude.{◌≡◌, min}
@@ -59,19 +59,17 @@ Gains-step a b c bytes done count s t =
 
 -- a read gives the front of what is left, as much as fits, and goes on behind it
 pub Reads-front :
-    (bytes shown copied buffer : List ℕ) (position most room count : ℕ) →
+    (bytes shown copied buffer : List ℕ) (position count : ℕ) →
     shown ≡ bytes →
-    1 ≤ most →
     copied ≡ take count (take (length shown - position) (drop position shown)) →
-    count ≡ min (length (take (length shown - position) (drop position shown))) room →
-    room ≡ min (length buffer) most →
+    count ≡ min (length (take (length shown - position) (drop position shown))) (length buffer) →
     Reads (Some (drop position bytes)) (Some (drop (position + count) bytes)) (copied ++ drop count buffer) count
-Reads-front bytes shown copied buffer position most room count same some copies counts rooms =
+Reads-front bytes shown copied buffer position count same copies counts =
     let left : List ℕ = drop position bytes in
     let whole : take (length shown - position) (drop position shown) ≡ left =
     rw same (take_all (length bytes - position) left (omega (arith, length-drop position bytes))) in
     let copied_is : copied ≡ take count left = copies ∙ ap (take count) whole in
-    let count_is : count ≡ min (length left) room = counts ∙ ap (λ xs. min (length xs) room) whole in
+    let count_is : count ≡ min (length left) (length buffer) = counts ∙ ap (λ xs. min (length xs) (length buffer)) whole in
     let fits : count ≤ length left = omega arith in
     let copied_length : length copied ≡ count = rw copied_is (length-take-le count left fits) in
     let short : count ≤ length copied = omega arith in
@@ -81,6 +79,18 @@ Reads-front bytes shown copied buffer position most room count same some copies 
       taken = (drop count left, rw front (sym (take-append-drop count left)), ap Some (sym (drop-drop count position bytes)));
       at_end = λ none wanted. nil_from_length left (omega (arith, length-append copied (drop count buffer), length-drop count buffer));
     }
+
+-- a read into the front of a buffer, which has room where the buffer has, is a read into the buffer
+pub Reads-within :
+    (before now : Option (List ℕ)) (front after : List ℕ) (count : ℕ) →
+    count ≤ length front →
+    (0 < length (front ++ after) → 0 < length front) →
+    Reads before now front count →
+    Reads before now (front ++ after) count
+Reads-within before now front after count bound room read = record {
+  taken = rw take-append-le read.taken;
+  at_end = λ none wanted. read.at_end none (room wanted);
+}
 
 -- what is known stays known where nothing was called
 pub Keeps-nothing : (known : Option (List ℕ)) → Keeps known known

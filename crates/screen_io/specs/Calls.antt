@@ -1,4 +1,4 @@
--- Calls that are counted from 1, of which some are to fail.
+-- To be believed: calls that are counted from 1, of which some are to fail.
 use Rattle.std.specs.Prelude.{ℕ, ◌+◌, ◌-◌, ◌^◌, ◌≡◌, min, List, Contains}
 use Rattle.screen_io.specs.declared.calls.Calls.{Calls}
 

@@ -1,4 +1,4 @@
--- When a call may answer that it failed: only where the count of faults rose in it.
+-- To be believed: when a call may answer that it failed: only where the count of faults rose in it.
 use Rattle.std.specs.Prelude.{ℕ, ◌+◌, ◌-◌, ◌^◌, ◌≤◌, min, Result, OnErr}
 
 -- The count rose: it is greater, or it stands at its last value.

@@ -1,5 +1,7 @@
 pub mod Calls
+pub mod Ends
 pub mod Faults
 pub mod Memory
 pub mod Sink
 pub mod Source
+pub mod Target

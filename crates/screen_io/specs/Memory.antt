@@ -1,12 +1,12 @@
--- What a source and a sink in memory have and hold.
-use Rattle.std.specs.Prelude.{ℕ, List, drop}
+-- To be believed: what a source and a sink in memory have and hold.
+use Rattle.std.specs.Prelude.{ℕ, List}
 use Rattle.screen_io.specs.declared.calls.Calls.{Calls}
 use Rattle.screen_io.specs.declared.memory_source.MemSource.{MemSource}
 use Rattle.screen_io.specs.declared.memory_sink.MemSink.{MemSink}
 
 -- The bytes that the source has left.
 abbrev pub source_left : MemSource → List ℕ
-source_left source = drop source.position source.bytes.items
+source_left source = source.unread
 
 -- How many bytes the source gives at most in one call.
 abbrev pub source_most : MemSource → ℕ

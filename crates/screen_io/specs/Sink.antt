@@ -1,4 +1,4 @@
--- What a call adds to a sink, by the bytes that the sink holds, where it tells them.
+-- To be believed: what a call adds to a sink, by the bytes that the sink holds, where it tells them.
 use Rattle.std.specs.Prelude.{◌≡◌, ℕ, ◌≤◌, List, ◌++◌, length, take, Option, Some, None}
 
 -- The sink holds these bytes at its end, after all that it held. A sink that tells nothing goes on

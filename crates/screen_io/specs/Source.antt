@@ -1,4 +1,4 @@
--- What a call takes from a source, by the bytes that the source has left, where it tells them.
+-- To be believed: what a call takes from a source, by the bytes that the source has left, where it tells them.
 use Rattle.std.specs.Prelude.{◌≡◌, ℕ, ◌<◌, List, [], ◌++◌, length, take, Option, Some, None}
 
 -- The taken bytes were the front of what was left, and the rest is left now. A source that tells

@@ -1,3 +1,4 @@
+//! The calls of a source or a sink in memory, of which some are to fail.
 use crate::source::Failed;
 
 /// The calls of a source or a sink in memory: how many were made, which ones fail, and how many did.

@@ -5,6 +5,7 @@
 #![tactic(auto)]
 
 mod calls;
+mod honest_source;
 mod interrupted;
 mod memory_sink;
 mod memory_source;
@@ -17,6 +18,7 @@ mod source;
 mod tests;
 mod write;
 
+pub use honest_source::HonestSource;
 pub use memory_sink::MemSink;
 pub use memory_source::MemSource;
 pub use read::{ReadFault, read_all};

@@ -1,3 +1,4 @@
+//! A sink in memory that fails where it is told to.
 ghost use Rattle.std.specs.Prelude.{◌+◌, ◌≤◌, vec_len, vec_capacity};
 
 use crate::calls::Calls;

@@ -1,17 +1,17 @@
-ghost use Rattle.std.specs.Prelude.{◌≤◌, vec_len};
+//! A source in memory that fails where it is told to.
+ghost use Rattle.std.specs.Prelude.{◌≤◌};
 
 use crate::calls::Calls;
+use crate::honest_source::HonestSource;
 use crate::source::{Failed, Source};
 
 /// A source over bytes in memory. It gives only so many bytes in a call, and fails at the calls that
 /// it is told. It takes no memory.
 #[derive(Drop)]
 pub struct MemSource {
-    bytes: Vec<u8>,
-    position: usize,
+    unread: HonestSource,
     most: usize,
     calls: Calls,
-    ghost within: { position ≤ vec_len bytes },
     ghost some: { 1 ≤ most },
 }
 
@@ -29,8 +29,7 @@ impl MemSource {
         ensures calls { IsNew (source_calls result) fails.items }
     {
         MemSource {
-            bytes,
-            position: 0,
+            unread: HonestSource::new(bytes),
             most,
             calls: Calls::new(fails),
         }
@@ -69,10 +68,7 @@ impl Source for MemSource {
         ensures same_most { source_most self.new ≡ source_most self.old }
     {
         self.calls.begin()?;
-        let left = &self.bytes[self.position..];
-        let count = left.len().min(buf.len().min(self.most));
-        buf[..count].copy_from_slice(&left[..count]);
-        self.position += count;
-        Ok(count)
+        let room = buf.len().min(self.most);
+        Ok(self.unread.give(&mut buf[..room]))
     }
 }

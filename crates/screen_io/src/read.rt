@@ -1,4 +1,5 @@
-ghost use Rattle.std.specs.Prelude.{◌≡◌, ◌+◌, ◌<◌, ◌≤◌, List, ℕ, length, IfOk, OnOk, OnErr, IsErrOf};
+//! Reading a source to its end, within a limit.
+ghost use Rattle.std.specs.Prelude.{◌≡◌, ◌≢◌, ◌+◌, ◌<◌, ◌≤◌, List, ℕ, length, Err, IfOk, OnErr, IsErrOf};
 ghost use Rattle.screen_io.specs.Faults.{Rose};
 ghost use Rattle.screen_io.specs.Source.{Takes, IsAtEnd};
 
@@ -31,7 +32,9 @@ pub fn read_all<S: Source>(alloc: Global, src: &mut S, limit: u64) -> Result<Vec
     ensures to_the_end { IfOk result (λ _. IsAtEnd (S.left src.new)) }
     ensures within { IfOk result (λ bytes. length bytes.items ≤ limit) }
 
-    ensures rest { OnErr result ((taken : List ℕ) × Takes (S.left src.old) taken (S.left src.new)) }
+    // Whatever stopped it, one byte more than the limit was taken at most.
+    ensures rest { OnErr result
+        ((taken : List ℕ) × (length taken ≤ limit + 1) × Takes (S.left src.old) taken (S.left src.new)) }
     ensures failed { IsErrOf result ReadFault.Failed → Rose (S.faults src.old) (S.faults src.new) }
     ensures failed_within { IsErrOf result ReadFault.Failed →
         (taken : List ℕ) × (length taken ≤ limit) × Takes (S.left src.old) taken (S.left src.new) }
@@ -40,7 +43,7 @@ pub fn read_all<S: Source>(alloc: Global, src: &mut S, limit: u64) -> Result<Vec
         (taken : List ℕ) × (length taken ≡ limit + 1) × Takes (S.left src.old) taken (S.left src.new) }
 
     ensures later { S.faults src.old ≤ S.faults src.new }
-    ensures unfailed { OnOk result (S.faults src.new ≡ S.faults src.old) }
+    ensures unfailed { result ≢ Err ReadFault.Failed → S.faults src.new ≡ S.faults src.old }
 {
     let mut piece = [0u8; PIECE];
     let mut bytes = Vec::new(alloc);

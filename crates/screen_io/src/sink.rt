@@ -1,3 +1,4 @@
+//! What a sink of bytes promises.
 ghost use Rattle.std.specs.Prelude.{◌≡◌, ◌<◌, ◌≤◌, List, ℕ, length, take, Option, IfOk, OnOk, OnErr};
 ghost use Rattle.screen_io.specs.Faults.{HasCause};
 ghost use Rattle.screen_io.specs.Sink.{Gains};

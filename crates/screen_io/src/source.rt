@@ -1,3 +1,4 @@
+//! What a source of bytes promises.
 ghost use Rattle.std.specs.Prelude.{◌≡◌, ◌≤◌, List, ℕ, length, Option, IfOk, OnOk, OnErr};
 ghost use Rattle.screen_io.specs.Faults.{HasCause};
 ghost use Rattle.screen_io.specs.Source.{Reads};

@@ -1,3 +1,4 @@
+//! Writing bytes whole to a sink.
 ghost use Rattle.std.specs.Prelude.{◌≡◌, OnOk, OnErr};
 ghost use Rattle.screen_io.specs.Faults.{HasCause};
 ghost use Rattle.screen_io.specs.Sink.{Gains, GainsPrefix};

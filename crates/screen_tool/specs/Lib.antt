@@ -12,4 +12,5 @@ pub mod Narrow
 pub mod Note
 pub mod Numbers
 pub mod Performance
+pub mod RealEnds
 pub mod Step

@@ -1,19 +1,17 @@
 use Rattle.screen_io.proofs.Steps.{Reads-front}
-use Rattle.screen_io.proofs.memory_source.MemSourceSource.read.Goals as goal
+use Rattle.screen_io.proofs.honest_source.HonestSource.give.Goals as goal
 
 pub returns-clause-bytes : goal.returns-clause-bytes
 returns-clause-bytes c =
+    rw (← c.self.view_is) (
     Reads-front
-    c.args.self.now.bytes.items
+    c.self.inside.bytes.items
     _
     _
     c.args.buf.now
-    _
-    c.args.self.now.most
-    _
+    c.self.inside.position
     _
     c.deref.ensures.value
-    c.args.self.now.some
     c.copy_from_slice.ensures.after
     c.min-count.ensures
-    c.min.ensures
+    )
