@@ -96,6 +96,15 @@ module _ {S : Type 0} (left : S → Option (List ℕ)) (source_faults : S → �
       inr (inl (record { came = q.0; rules = q.1; needed = needs_readings law q.0 found q.2 q.3; rose = p; cert = refl }))
   readings_end law ins rules readings found fault.Memory q p = record { rules = q.1.2; readings = p; cert = refl }
 
+  pub usage_ends : (command : Option Command) (ins : Inputs S) → command ≡ None → Ends left source_faults command ins ins ending.Usage
+  usage_ends command ins none = (
+    usage,
+    refl,
+    refl,
+    refl,
+    (record { rules = []; readings = []; cert = [] }, subst (λ given. Answers given (record { rules = []; readings = []; cert = [] }) usage) (sym none) refl, (refl, refl, refl)),
+  )
+
   -- both files are accepted
   pub rows_answered : (ins : Inputs S) (rules readings : S) (found : WholeSpeed) (rows : List Row) (answer : Answer)
       → IsStep left source_faults longest_rules ReadsRules ins.rules rules (Ok found)
@@ -127,6 +136,19 @@ module _ {S K : Type 0} (left : S → Option (List ℕ)) (source_faults : S → 
   proper_performs command ins ins_now outs outs_now ending.ReadFault proper answer p q r = absurd proper
   proper_performs command ins ins_now outs outs_now ending.WriteFault proper answer p q r = absurd proper
   proper_performs command ins ins_now outs outs_now ending.Memory proper answer p q r = absurd proper
+
+  -- the note is no part of it
+  pub performs_noted : (command : Option Command) (ins ins_now : Inputs S) (outs outs_now : Outputs K) (note : K) (how : Ending)
+      → Performs left source_faults held sink_faults command ins ins_now outs outs_now how
+      → Performs left source_faults held sink_faults command ins ins_now outs (record outs_now { note = note }) how
+  performs_noted command ins ins_now outs outs_now note ending.Done p = p
+  performs_noted command ins ins_now outs outs_now note ending.Usage p = p
+  performs_noted command ins ins_now outs outs_now note (ending.RulesRefused f) p = p
+  performs_noted command ins ins_now outs outs_now note (ending.ReadingsRefused f) p = p
+  performs_noted command ins ins_now outs outs_now note ending.NeedsRepair p = p
+  performs_noted command ins ins_now outs outs_now note ending.ReadFault p = p
+  performs_noted command ins ins_now outs outs_now note ending.WriteFault p = p
+  performs_noted command ins ins_now outs outs_now note ending.Memory p = p
 
   pub ends_performs : (command : Option Command) (ins ins_now : Inputs S) (outs outs_now : Outputs K) (how : Ending)
       → LeavesSinks outs outs_now → Ends left source_faults command ins ins_now how

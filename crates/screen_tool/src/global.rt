@@ -36,7 +36,7 @@ pub(crate) fn global<S: Source>(alloc: Global, ins: &mut Inputs<S>) -> Result<Re
         return Err(Ending::NeedsRepair);
     }
     let out = unchanged_text(alloc, &rules, &table)?;
-    let cert = UNCHANGED_CERT.to_vec(alloc)?;
+    let cert = Vec::from_slice(alloc, UNCHANGED_CERT)?;
     Ok(Reply {
         ending: Ending::Done,
         cert: Some(cert),
