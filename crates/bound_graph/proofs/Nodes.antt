@@ -10,7 +10,7 @@ use Rattle.screen_model.specs.declared.place.End.TheVariants.{Zero, At}
 use Rattle.screen_model.specs.declared.bound.Bound.{Bound}
 use Rattle.words.specs.Lists.{Distinct}
 use Rattle.screen_model.specs.Series.{is_same_place}
-use Rattle.bound_graph.specs.Graph.{index_of, node_of, arc_of}
+use Rattle.bound_graph.specs.Graph.{index_of, node_of, arc_of_bound}
 use Rattle.screen_model.specs.Obeys.{HasEnds}
 use Rattle.screen_model.specs.Series.{IsEnd}
 use Rattle.bound_graph.specs.Ends.{Nodes, is_same, node_in, arc_in, IsNumbered}
@@ -34,7 +34,7 @@ index_later : (q : Place) (places : List Place) (p : Place) → is_same_place p 
 index_later q places p h = cond-false (is_same_place p q) 0 (suc (index_of places p)) h
 
 -- a place stands at its index
-place_at_index : (places : List Place) (p d : Place) → index_of places p < length places → get_or places (index_of places p) d ≡ p
+pub place_at_index : (places : List Place) (p d : Place) → index_of places p < length places → get_or places (index_of places p) d ≡ p
 place_at_index [] p d lt = absurd (omega arith)
 place_at_index (q ∷ places) p d lt = ⊎_elim
     (λ same. ap (λ k. get_or (q ∷ places) k d) (index_here q places p same) ∙ sym (one_place p q same))
@@ -87,14 +87,14 @@ node_same : (places : List Place) (nodes : Nodes) (end : End) → IsNumbered pla
 node_same places nodes Zero numbered ok = refl
 node_same places nodes (At p) numbered ok = ap (λ o. unwrap_or o 0) (numbered.each p (index_of_contained places p ok))
 
-arc_same : (places : List Place) (nodes : Nodes) (bound : Bound) → IsNumbered places (length places) nodes → HasEnds places bound → arc_in nodes bound ≡ arc_of places bound
+arc_same : (places : List Place) (nodes : Nodes) (bound : Bound) → IsNumbered places (length places) nodes → HasEnds places bound → arc_in nodes bound ≡ arc_of_bound places bound
 arc_same places nodes bound numbered ok =
     let tail = node_same places nodes bound.first numbered ok.0 in
     let head = node_same places nodes bound.second numbered ok.1 in
     cc
 
 pub arcs_same : (places : List Place) (nodes : Nodes) (bounds : List Bound) → IsNumbered places (length places) nodes → AllByRecursion (HasEnds places) bounds
-    → map (arc_in nodes) bounds ≡ map (arc_of places) bounds
+    → map (arc_in nodes) bounds ≡ map (arc_of_bound places) bounds
 arcs_same places nodes [] numbered ends = refl
 arcs_same places nodes (bound ∷ bounds) numbered ends =
     let first = arc_same places nodes bound numbered ends.0 in

@@ -2,7 +2,7 @@
 ghost use Rattle.std.specs.Prelude.{◌≡◌, ◌<◌, ◌+◌, ◌^◌, length, map, IfOk};
 ghost use Rattle.std.specs.List.{AllByRecursion};
 ghost use Rattle.words.specs.Lists.{Distinct};
-ghost use Rattle.bound_graph.specs.Graph.{arc_of};
+ghost use Rattle.bound_graph.specs.Graph.{arc_of_bound};
 ghost use Rattle.screen_model.specs.Obeys.{HasEnds};
 ghost use Rattle.bound_graph.specs.Ends.{arc_in, node_in, IsNumbered};
 
@@ -19,7 +19,7 @@ pub fn arcs_of(alloc: Global, places: &[Place], bounds: &[Bound]) -> Result<Vec<
     requires distinct { Distinct places.now }
     requires ends { AllByRecursion (HasEnds places.now) bounds.now }
     requires few_places { length places.now + 1 < 2 ^ 32 }
-    ensures { IfOk result (λ arcs. arcs.items ≡ map (arc_of places.now) bounds.now) }
+    ensures { IfOk result (λ arcs. arcs.items ≡ map (arc_of_bound places.now) bounds.now) }
 {
     let nodes = nodes_of(alloc, places)?;
     arcs_in(alloc, &nodes, bounds)
