@@ -1,10 +1,10 @@
 -- Cycles of arcs, and those that are cycles of bounds.
-use Rattle.std.proofs.Common.{◌≡◌, ◌≢◌, ℕ, zero, suc, ◌<◌, ◌≤◌, true, eqb, ℤ, pos, negsuc, ◌+ℤ◌, ◌≤ℤ◌, List, [], ◌∷◌, ◌++◌, length, get_or, map, Option, None, Some, Contains, refl, sym, ap, ◌∙◌, subst, arith}
+use Rattle.std.proofs.Common.{◌≡◌, ℕ, zero, suc, eqb, ℤ, negsuc, ◌+ℤ◌, ◌≤ℤ◌, List, [], ◌∷◌, length, get_or, map, Option, Some, Contains, refl, sym, ap, ◌∙◌, subst, arith}
 use Rattle.std.specs.Prelude.{slice_get}
 use Rattle.std.specs.List.{AllByRecursion}
 use Rattle.std.proofs.lemmas.Bool.{eqb-true}
 use Rattle.std.proofs.lemmas.Int.{ints}
-use Rattle.std.proofs.lemmas.List.{length-map, map-append}
+use Rattle.std.proofs.lemmas.List.{length-map}
 use Rattle.std.proofs.lemmas.List.Elements.{All-from_recursion, All-contains}
 use Rattle.std.proofs.lemmas.Option.{cond_some}
 use Rattle.words.specs.Lists.{Distinct, rotated, total}
@@ -13,13 +13,11 @@ use Rattle.screen_model.specs.declared.place.End.{End}
 use Rattle.screen_model.specs.declared.place.End.TheVariants.{Zero, At}
 use Rattle.screen_model.specs.Series.{IsEnd}
 use Rattle.screen_model.specs.Obeys.{Priced, HasEnds}
-use Rattle.screen_model.specs.Best.{IsBlocked}
 use Rattle.bound_graph.specs.declared.arc.Arc.{Arc}
 use Rattle.bound_graph.specs.Arcs.{arc_at}
 use Rattle.bound_graph.specs.Graph.{node_of, index_of, arc_of_bound}
 use Rattle.bound_graph.specs.Values.{value_of, RespectsArc, RespectsIfThere, RespectsArcs}
-use Rattle.bound_graph.specs.Cycle.{IsNegativeCycle}
-use Rattle.bound_graph.specs.Bridge.{unpriced_arc, unpriced_arcs, NegativeCycleBlocks, NegativeCycleForbids}
+use Rattle.bound_graph.specs.Bridge.{unpriced_arcs, NegativeCycleBlocks, NegativeCycleForbids}
 use Rattle.bound_graph.proofs.Lists.{all_push, map-rotated, total-rotated, distinct_from_map}
 use Rattle.bound_graph.proofs.Nodes.{place_at_index, index_of_contained}
 
@@ -163,12 +161,15 @@ blocks places bounds numbers ends negative =
     let below : total (map (λ arc. arc.cost) (arcs_of_cycle places cycle)) ≤ℤ negsuc 0 = rw are at negative.negative in
     let round : map (node_of places) (seconds cycle) ≡ map (node_of places) (rotated (firsts cycle)) =
     sym (heads_are places cycle) ∙ closed ∙ ap rotated (tails_are places cycle) ∙ sym (map-rotated (node_of places) (firsts cycle))
-    in
-    (cycle, taken.there, record {
-      some = omega (arith, negative.some, ap (λ (l : List Arc). length l) taken.are, length-map cycle (λ (priced : Priced). arc_of_bound places priced.bound));
-      members = taken.members;
-      unpriced = taken.unpriced;
-      closed = same_ends places (seconds cycle) (rotated (firsts cycle)) at.1 (all_rotated (IsEnd places) (firsts cycle) at.0) round;
-      simple = distinct_from_map (node_of places) (firsts cycle) (subst Distinct (tails_are places cycle) simple);
-      negative = subst (λ costs. total costs ≤ℤ negsuc 0) (costs_are places cycle) below;
-    })
+    in (
+      cycle,
+      taken.there,
+      record {
+        some = omega (arith, negative.some, ap (λ (l : List Arc). length l) taken.are, length-map cycle (λ (priced : Priced). arc_of_bound places priced.bound));
+        members = taken.members;
+        unpriced = taken.unpriced;
+        closed = same_ends places (seconds cycle) (rotated (firsts cycle)) at.1 (all_rotated (IsEnd places) (firsts cycle) at.0) round;
+        simple = distinct_from_map (node_of places) (firsts cycle) (subst Distinct (tails_are places cycle) simple);
+        negative = subst (λ costs. total costs ≤ℤ negsuc 0) (costs_are places cycle) below;
+      },
+    )

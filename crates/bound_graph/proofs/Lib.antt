@@ -5,4 +5,5 @@ pub mod Groups
 pub mod Leaving
 pub mod Lists
 pub mod Nodes
+pub mod Rows
 pub mod Values

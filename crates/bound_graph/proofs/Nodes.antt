@@ -1,19 +1,13 @@
 -- The nodes of places, as a map holds them.
-use Rattle.std.proofs.Common.{◌≡◌, ◌≢◌, ℕ, zero, suc, ◌+◌, ◌<◌, true, false, cond, eqb, List, [], ◌∷◌, length, get_or, map, Some, unwrap_or, Contains, refl, sym, ap, ◌∙◌, ⊎_elim, arith}
-use Rattle.std.specs.List.{AllByRecursion}
+use Rattle.std.proofs.Common.{◌≡◌, ◌≢◌, ℕ, zero, suc, ◌+◌, ◌<◌, true, false, cond, eqb, List, [], ◌∷◌, length, get_or, Some, unwrap_or, Contains, refl, sym, ap, ◌∙◌, ⊎_elim, arith}
 use Rattle.std.specs.HashMap.{get, Updates}
 use Rattle.std.proofs.lemmas.Bool.{cases_Bool, cases_lt, and_parts, and_from, eqb-true, eq-eqb, cond-true, cond-false, false_from_ne_true}
 use Rattle.std.proofs.lemmas.List.Elements.{All-from_recursion}
 use Rattle.screen_model.specs.declared.place.Place.{Place}
-use Rattle.screen_model.specs.declared.place.End.{End}
-use Rattle.screen_model.specs.declared.place.End.TheVariants.{Zero, At}
-use Rattle.screen_model.specs.declared.bound.Bound.{Bound}
 use Rattle.words.specs.Lists.{Distinct}
 use Rattle.screen_model.specs.Series.{is_same_place}
-use Rattle.bound_graph.specs.Graph.{index_of, node_of, arc_of_bound}
-use Rattle.screen_model.specs.Obeys.{HasEnds}
-use Rattle.screen_model.specs.Series.{IsEnd}
-use Rattle.bound_graph.specs.Ends.{Nodes, is_same, node_in, arc_in, IsNumbered}
+use Rattle.bound_graph.specs.Graph.{index_of}
+use Rattle.bound_graph.specs.Index.{NodeMap, is_same, IsNumbered}
 
 one_place : (p q : Place) → is_same_place p q ≡ true → p ≡ q
 one_place p q h =
@@ -64,7 +58,7 @@ pub index_of_contained : (places : List Place) (p : Place) → Contains places p
 index_of_contained places p h = index_le places h.0 p h.1 h.2
 
 -- one more place in the map
-pub numbered_more : (places : List Place) (i : ℕ) (d : Place) (nodes new : Nodes) → Distinct places → i < length places → IsNumbered places i nodes
+pub numbered_more : (places : List Place) (i : ℕ) (d : Place) (nodes new : NodeMap) → Distinct places → i < length places → IsNumbered places i nodes
     → Updates is_same nodes new ((get_or places i d).row, (get_or places i d).col) (Some (i + 1)) → IsNumbered places (i + 1) new
 numbered_more places i d nodes new distinct lt numbered updates = record {
   each = λ p h.
@@ -83,20 +77,6 @@ numbered_more places i d nodes new distinct lt numbered updates = record {
       (cases_lt (index_of places p) i);
 }
 
-node_same : (places : List Place) (nodes : Nodes) (end : End) → IsNumbered places (length places) nodes → IsEnd places end → node_in nodes end ≡ node_of places end
-node_same places nodes Zero numbered ok = refl
-node_same places nodes (At p) numbered ok = ap (λ o. unwrap_or o 0) (numbered.each p (index_of_contained places p ok))
-
-arc_same : (places : List Place) (nodes : Nodes) (bound : Bound) → IsNumbered places (length places) nodes → HasEnds places bound → arc_in nodes bound ≡ arc_of_bound places bound
-arc_same places nodes bound numbered ok =
-    let tail = node_same places nodes bound.first numbered ok.0 in
-    let head = node_same places nodes bound.second numbered ok.1 in
-    cc
-
-pub arcs_same : (places : List Place) (nodes : Nodes) (bounds : List Bound) → IsNumbered places (length places) nodes → AllByRecursion (HasEnds places) bounds
-    → map (arc_in nodes) bounds ≡ map (arc_of_bound places) bounds
-arcs_same places nodes [] numbered ends = refl
-arcs_same places nodes (bound ∷ bounds) numbered ends =
-    let first = arc_same places nodes bound numbered ends.0 in
-    let rest = arcs_same places nodes bounds numbered ends.1 in
-    cc
+-- the map answers the node of a place
+pub node_from_map : (places : List Place) (nodes : NodeMap) (p : Place) → IsNumbered places (length places) nodes → Contains places p → unwrap_or (get is_same nodes (p.row, p.col)) 0 ≡ suc (index_of places p)
+node_from_map places nodes p numbered ok = ap (λ o. unwrap_or o 0) (numbered.each p (index_of_contained places p ok))

@@ -1,20 +1,19 @@
 -- Values at nodes and values of readings.
-use Rattle.std.proofs.Common.{◌≡◌, ℕ, zero, suc, ◌<◌, Bool, true, false, cond, eqb, ℤ, pos, ◌+ℤ◌, ◌-ℤ◌, ◌≤ℤ◌, ◌↔◌, List, [], ◌∷◌, length, get_or, map, Option, None, Some, IfSome, refl, sym, ap, ◌∙◌, subst, arith}
+use Rattle.std.proofs.Common.{◌≡◌, ℕ, zero, suc, ◌<◌, Bool, true, false, cond, eqb, ℤ, pos, ◌-ℤ◌, ◌↔◌, List, [], ◌∷◌, length, get_or, map, Option, None, Some, IfSome, refl, ap, ◌∙◌, subst, arith}
 use Rattle.std.specs.List.{AllByRecursion}
 use Rattle.std.proofs.lemmas.Int.{ints}
 use Rattle.std.proofs.lemmas.Bool.{cond-false, ne_eqb}
 use Rattle.std.proofs.lemmas.List.{length-map}
 use Rattle.screen_model.specs.declared.place.Place.{Place}
-use Rattle.screen_model.specs.declared.place.End.{End}
 use Rattle.screen_model.specs.declared.place.End.TheVariants.{Zero, At}
 use Rattle.screen_model.specs.declared.bound.Bound.{Bound}
-use Rattle.screen_model.specs.Series.{is_same_place, reading_at, value_at}
-use Rattle.screen_model.specs.Obeys.{Priced, without_prices, HasEnds, Keeps, Obeys}
+use Rattle.screen_model.specs.Series.{is_same_place, reading_at}
+use Rattle.screen_model.specs.Obeys.{Priced, HasEnds, Keeps, Obeys}
 use Rattle.bound_graph.specs.declared.arc.Arc.{Arc}
 use Rattle.bound_graph.specs.Arcs.{arc_at, IsBetween}
-use Rattle.bound_graph.specs.Graph.{index_of, node_of, arc_of_bound, arcs_of_bounds}
+use Rattle.bound_graph.specs.Graph.{index_of, arc_of_bound}
 use Rattle.bound_graph.specs.Values.{value_of, RespectsArc, RespectsIfThere, RespectsArcs, less_first, series_of}
-use Rattle.bound_graph.specs.Bridge.{unpriced_arc, unpriced_arcs, ArcsWithoutPrices, ValuesAtEnds, ObeyingIsRespecting, LessFirstRespects, DistancesGiveSeries}
+use Rattle.bound_graph.specs.Bridge.{unpriced_arcs, ArcsWithoutPrices, ValuesAtEnds, ObeyingIsRespecting, LessFirstRespects, DistancesGiveSeries}
 use Rattle.bound_graph.proofs.Arcs.{node_below}
 
 pub without_price : ArcsWithoutPrices
