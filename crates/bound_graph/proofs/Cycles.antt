@@ -24,10 +24,10 @@ use Rattle.bound_graph.proofs.Nodes.{place_at_index, index_of_contained}
 -- ---- a cycle with a negative sum forbids
 
 -- the sum of a value over nodes, which is the same over the nodes in rotation
-abbrev over : (ℕ → ℤ) → List ℕ → ℤ
+abbrev pub over : (ℕ → ℤ) → List ℕ → ℤ
 over value nodes = total (map value nodes)
 
-over-rotated : (value : ℕ → ℤ) (nodes : List ℕ) → over value (rotated nodes) ≡ over value nodes
+pub over-rotated : (value : ℕ → ℤ) (nodes : List ℕ) → over value (rotated nodes) ≡ over value nodes
 over-rotated value nodes = ap total (map-rotated value nodes) ∙ total-rotated (map value nodes)
 
 -- where each arc is respected, the values at the heads are together at most those at the tails and the costs
