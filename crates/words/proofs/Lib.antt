@@ -1,0 +1,5 @@
+pub mod InnerProducts
+pub mod Lists
+pub mod Parts
+pub mod Products
+pub mod Sums
