@@ -1,5 +1,5 @@
 -- Products of whole numbers: with a sum, under an order, by their sizes, and against a division that rounds down.
-use Rattle.std.proofs.Common.{◌≡◌, ◌↔◌, ℕ, zero, suc, ◌*◌, ◌/◌, ◌<◌, ◌≤◌, ℤ, pos, negsuc, neg_ℤ, ◌+ℤ◌, ◌-ℤ◌, ◌*ℤ◌, ◌≤ℤ◌, refl, ap, ◌∙◌, arith}
+use Rattle.std.proofs.Common.{◌≡◌, ◌↔◌, ℕ, zero, suc, ◌*◌, ◌/◌, ◌<◌, ◌≤◌, ℤ, pos, negsuc, neg_ℤ, ◌+ℤ◌, ◌-ℤ◌, ◌*ℤ◌, ◌≤ℤ◌, refl, sym, ap, ◌∙◌, arith}
 use Rattle.std.specs.Prelude.{unsigned_abs}
 use Rattle.std.specs.Int.{int_div_euclid}
 use Rattle.std.proofs.Math.IntN.{+ℤ_idl, *ℤ_comm, *ℤ-zero, zero-*ℤ, *ℤ-negsuc, suc_ℤ-*ℤ}
@@ -34,6 +34,23 @@ minus_mul a b k = omega (arith, ints, sum_mul (a -ℤ b) b k, ap (λ x. x *ℤ k
 
 pub neg_mul : (a k : ℤ) → (pos 0 -ℤ a) *ℤ k ≡ pos 0 -ℤ (a *ℤ k)
 neg_mul a k = omega (arith, ints, minus_mul (pos 0) a k, zero-*ℤ k)
+
+-- ---- of three factors
+
+swap_pos : (a b : ℤ) (k : ℕ) → a *ℤ (b *ℤ pos k) ≡ (a *ℤ b) *ℤ pos k
+swap_pos a b zero = omega (arith, ints, ap (λ x. a *ℤ x) (*ℤ-zero b), *ℤ-zero a, *ℤ-zero (a *ℤ b))
+swap_pos a b (suc k) = omega (arith, ints, ap (λ x. a *ℤ x) (mul_suc b k), mul_sum a (b *ℤ pos k) b, swap_pos a b k, mul_suc (a *ℤ b) k)
+
+zero_less : (x : ℤ) → neg_ℤ x ≡ pos 0 -ℤ x
+zero_less x = omega (arith, ints)
+
+pub mul_assoc : (a b c : ℤ) → (a *ℤ b) *ℤ c ≡ a *ℤ (b *ℤ c)
+mul_assoc a b (pos k) = sym (swap_pos a b k)
+mul_assoc a b (negsuc k) = omega (arith, ints, *ℤ-negsuc (a *ℤ b) k, swap_pos a b (suc k), ap (λ x. a *ℤ x) (*ℤ-negsuc b k), mul_minus a (pos 0) (b *ℤ pos (suc k)), *ℤ-zero a, ap (λ x. a *ℤ x) (zero_less (b *ℤ pos (suc k))))
+
+-- the first two of three factors change places
+pub mul_swap : (a b c : ℤ) → a *ℤ (b *ℤ c) ≡ b *ℤ (a *ℤ c)
+mul_swap a b c = sym (mul_assoc a b c) ∙ ap (λ x. x *ℤ c) (*ℤ_comm a b) ∙ mul_assoc b a c
 
 -- ---- under an order, and by sizes
 
