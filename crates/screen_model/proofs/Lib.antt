@@ -1,6 +1,6 @@
 pub mod Cycles
 pub mod Duality
-pub mod Examples
 pub mod Gains
-pub mod Products
+pub mod Names
 pub mod Pulls
+pub mod Spreads

@@ -1,7 +1,7 @@
 -- What holds of each element of a list; lists that are joined, turned round or rotated; distinct elements.
 use Rattle.std.proofs.Common.{◌≡◌, ◌≢◌, ℕ, zero, suc, ◌<◌, ◌⊎◌, inl, inr, List, [], ◌∷◌, ◌++◌, map, reverse, length, get_or, refl, sym, ap, ◌∙◌, arith}
 use Rattle.std.specs.Prelude.{Contains}
-use Rattle.std.specs.List.{AllByRecursion}
+use Rattle.std.specs.List.{AllByRecursion, AllZip}
 use Rattle.std.proofs.lemmas.List.{map-append, reverse-append}
 use Rattle.std.proofs.lemmas.List.Elements.{All-contains, All-from_recursion}
 use Rattle.words.specs.Lists.{Distinct, rotated}
@@ -26,6 +26,13 @@ all_map P f (x ∷ xs) all = (all.0, all_map P f xs all.1)
 pub all_from_map : {A B : Type 0} (P : B → Type 0) (f : A → B) (xs : List A) → AllByRecursion P (map f xs) → AllByRecursion (λ x. P (f x)) xs
 all_from_map P f [] all = tt
 all_from_map P f (x ∷ xs) all = (all.0, all_from_map P f xs all.1)
+
+-- two lists of which each two elements side by side are related are of one length
+pub all_zip_long : {A B : Type 0} (R : A → B → Type 0) (xs : List A) (ys : List B) → AllZip R xs ys → length ys ≡ length xs
+all_zip_long R [] [] all = refl
+all_zip_long R (x ∷ xs) (y ∷ ys) all = omega (arith, all_zip_long R xs ys all.1)
+all_zip_long R [] (y ∷ ys) all = absurd all
+all_zip_long R (x ∷ xs) [] all = absurd all
 
 -- ---- members
 

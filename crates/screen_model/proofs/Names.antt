@@ -1,0 +1,235 @@
+-- Bounds and flows that are told by names.
+use Rattle.std.proofs.Common.{◌≡◌, ◌≢◌, zero, suc, Bool, true, false, cond, ◌⊎◌, inl, inr, ℤ, pos, negsuc, ◌+ℤ◌, ◌≤ℤ◌, List, [], ◌∷◌, ◌++◌, length, map, refl, sym, ap, ◌∙◌, subst, arith}
+use Rattle.std.specs.Prelude.{Contains, filter}
+use Rattle.std.specs.List.{AllByRecursion, AllZip}
+use Rattle.std.proofs.lemmas.Bool.{eqb-true, eq-eqb, and_from, and_parts, false≢true, false_from_ne_true}
+use Rattle.std.proofs.lemmas.Int.{ints}
+use Rattle.std.proofs.lemmas.List.Elements.{All-weaker, All-contains_itself, recursion_from_All}
+use Rattle.screen_model.specs.declared.bound.BoundName.{BoundName}
+use Rattle.screen_model.specs.declared.bound.FlowItem.{FlowItem}
+use Rattle.screen_model.specs.declared.bound.Side.{Side}
+use Rattle.screen_model.specs.declared.bound.Side.TheVariants.{Up, Down}
+use Rattle.words.specs.Lists.{Distinct, IsPart, none, kept, left_out, total}
+use Rattle.words.proofs.Lists.{all_weaker, all_zip_long, all_at, all_from_map, contains_cases, contains_none, contains_map}
+use Rattle.words.proofs.Parts.{part_of_itself, part_none, part_map, part_all, part_distinct, part_contains}
+use Rattle.screen_model.specs.Obeys.{Priced}
+use Rattle.screen_model.specs.Names.{is_same_side, is_same_name, names_of, AreNamesIn, bounds_named, amount_on, amounts_of, IsFlowOver, with_item, items_of}
+use Rattle.screen_model.specs.Parts.{IsSpread, no_bounds, same_amount, no_amount, ItemsTellFlows, ItemsSpread, NamesStay}
+
+-- ---- names
+
+same_side : (side : Side) → is_same_side side side ≡ true
+same_side Up = refl
+same_side Down = refl
+
+side_from_same : (m n : Side) → is_same_side m n ≡ true → m ≡ n
+side_from_same Up Up h = refl
+side_from_same Down Down h = refl
+side_from_same Up Down h = absurd (false≢true h)
+side_from_same Down Up h = absurd (false≢true h)
+
+pub same_name : (name : BoundName) → is_same_name name name ≡ true
+same_name name =
+    and_from _ _ (eq-eqb name.rule name.rule refl)
+    (and_from _ _ (eq-eqb name.from_row name.from_row refl)
+    (and_from _ _ (eq-eqb name.to_row name.to_row refl)
+    (and_from _ _ (eq-eqb name.col name.col refl) (same_side name.side))))
+
+pub name_from_same : (m n : BoundName) → is_same_name m n ≡ true → m ≡ n
+name_from_same m n h =
+    let a = and_parts _ _ h in
+    let b = and_parts _ _ a.1 in
+    let c = and_parts _ _ b.1 in
+    let d = and_parts _ _ c.1 in
+    let rule = eqb-true m.rule n.rule a.0 in
+    let from_row = eqb-true m.from_row n.from_row b.0 in
+    let to_row = eqb-true m.to_row n.to_row c.0 in
+    let col = eqb-true m.col n.col d.0 in
+    let side = side_from_same m.side n.side d.1 in
+    λ i. record { rule = rule i; from_row = from_row i; to_row = to_row i; col = col i; side = side i }
+
+pub other_name : (m n : BoundName) → m ≢ n → is_same_name m n ≡ false
+other_name m n h = false_from_ne_true (is_same_name m n) (λ same. h (name_from_same m n same))
+
+-- ---- what bears a name
+
+abbrev pub bearing : {A : Type 0} → (A → BoundName) → BoundName → List A → List A
+bearing name_of name xs = filter (λ x. is_same_name name (name_of x)) xs
+
+pub bearing_passes : {A : Type 0} (name_of : A → BoundName) (x : A) (xs : List A) → bearing name_of (name_of x) (x ∷ xs) ≡ x ∷ bearing name_of (name_of x) xs
+bearing_passes name_of x xs = ap (λ same. cond same (x ∷ bearing name_of (name_of x) xs) (bearing name_of (name_of x) xs)) (same_name (name_of x))
+
+pub bearing_skips : {A : Type 0} (name_of : A → BoundName) (name : BoundName) (x : A) (xs : List A) → name ≢ name_of x → bearing name_of name (x ∷ xs) ≡ bearing name_of name xs
+bearing_skips name_of name x xs other = ap (λ same. cond same (x ∷ bearing name_of name xs) (bearing name_of name xs)) (other_name name (name_of x) other)
+
+pub bearing_none : {A : Type 0} (name_of : A → BoundName) (name : BoundName) (xs : List A) → AllByRecursion (λ x. name ≢ name_of x) xs → bearing name_of name xs ≡ []
+bearing_none name_of name [] others = refl
+bearing_none name_of name (x ∷ xs) others = bearing_skips name_of name x xs others.0 ∙ bearing_none name_of name xs others.1
+
+-- the name of a bound
+abbrev name_of : Priced → BoundName
+name_of priced = priced.bound.name
+
+-- where names are distinct, the bound of a name is the one that bears it
+found : (priced : Priced) (first : Priced) (bounds : List Priced) → Distinct (names_of (first ∷ bounds)) → (first ≡ priced) ⊎ Contains bounds priced
+    → (Contains bounds priced → bearing name_of (name_of priced) bounds ≡ priced ∷ []) → bearing name_of (name_of priced) (first ∷ bounds) ≡ priced ∷ []
+found priced first bounds distinct (inl e) rest =
+    let none_left = bearing_none name_of (name_of first) bounds (all_from_map (λ name. name_of first ≢ name) name_of bounds distinct.0) in
+    subst (λ (p : Priced). bearing name_of (name_of p) (first ∷ bounds) ≡ p ∷ []) e (bearing_passes name_of first bounds ∙ ap (λ ps. first ∷ ps) none_left)
+found priced first bounds distinct (inr later) rest =
+    bearing_skips name_of (name_of priced) first bounds (λ e. all_at (λ name. name_of first ≢ name) (names_of bounds) (name_of priced) distinct.0 (contains_map name_of bounds priced later) (sym e))
+    ∙ rest later
+
+pub bound_named : (bounds : List Priced) (priced : Priced) → Distinct (names_of bounds) → Contains bounds priced → filter (λ other. is_same_name priced.bound.name other.bound.name) bounds ≡ priced ∷ []
+bound_named [] priced distinct h = absurd (contains_none priced h)
+bound_named (first ∷ bounds) priced distinct h = found priced first bounds distinct (contains_cases first bounds priced h) (bound_named bounds priced distinct.1)
+
+-- ---- names of bounds of a part
+
+kept_stays : (name : BoundName) (first : Priced) (part bounds : List Priced) → IsPart part bounds → Distinct (names_of (first ∷ bounds)) → (name_of first ≡ name) ⊎ Contains (names_of part) name
+    → (Contains (names_of part) name → bearing name_of name bounds ≡ bearing name_of name part) → bearing name_of name (first ∷ bounds) ≡ bearing name_of name (first ∷ part)
+kept_stays name first part bounds is_part distinct (inl e) rest =
+    let others : AllByRecursion (λ (other : Priced). name ≢ name_of other) bounds = subst (λ n. AllByRecursion (λ (other : Priced). n ≢ name_of other) bounds) e (all_from_map (λ name. name_of first ≢ name) name_of bounds distinct.0) in
+    let same : bearing name_of name bounds ≡ bearing name_of name part = bearing_none name_of name bounds others ∙ sym (bearing_none name_of name part (part_all (λ (other : Priced). name ≢ name_of other) is_part others)) in
+    ap (λ ps. cond (is_same_name name (name_of first)) (first ∷ ps) ps) same
+kept_stays name first part bounds is_part distinct (inr later) rest = ap (λ ps. cond (is_same_name name (name_of first)) (first ∷ ps) ps) (rest later)
+
+-- a bound that is left out does not bear the name of one in the part
+not_left_out : (name : BoundName) (first : Priced) {part bounds : List Priced} → IsPart part bounds → Distinct (names_of (first ∷ bounds)) → Contains (names_of part) name → name_of first ≢ name
+not_left_out name first {bounds = bounds} is_part distinct h = all_at (λ other. name_of first ≢ other) (names_of bounds) name distinct.0 (part_contains (part_map name_of is_part) name h)
+
+name_stays : (name : BoundName) {part bounds : List Priced} → IsPart part bounds → Distinct (names_of bounds) → Contains (names_of part) name → bearing name_of name bounds ≡ bearing name_of name part
+name_stays name none distinct h = refl
+name_stays name (kept {x = first} {part = part} {whole = bounds} rest) distinct h = kept_stays name first part bounds rest distinct (contains_cases (name_of first) (names_of part) name h) (name_stays name rest distinct.1)
+name_stays name (left_out {x = first} {whole = bounds} rest) distinct h = bearing_skips name_of name first bounds (λ e. not_left_out name first rest distinct h (sym e)) ∙ name_stays name rest distinct.1 h
+
+names_stay : (names : List BoundName) {part bounds : List Priced} → IsPart part bounds → Distinct (names_of bounds) → AreNamesIn part names → bounds_named names bounds ≡ bounds_named names part
+names_stay [] is_part distinct named = refl
+names_stay (name ∷ names) {part = part} {bounds = bounds} is_part distinct named =
+    ap (λ ps. ps ++ bounds_named names bounds) (name_stays name is_part distinct named.0)
+    ∙ ap (λ ps. bearing name_of name part ++ ps) (names_stay names is_part distinct named.1)
+
+still_named : (names : List BoundName) {part bounds : List Priced} → IsPart part bounds → AreNamesIn part names → AreNamesIn bounds names
+still_named names {part = part} {bounds = bounds} is_part named = all_weaker (Contains (names_of part)) (Contains (names_of bounds)) (part_contains (part_map name_of is_part)) names named
+
+pub stay : NamesStay
+stay part bounds names is_part distinct named = (still_named names is_part named, names_stay names is_part distinct named)
+
+-- ---- items over a part
+
+abbrev item_name : FlowItem → BoundName
+item_name item = item.name
+
+-- nothing flows on a bound that no item names
+pub amount_none : (name : BoundName) (items : List FlowItem) → AllByRecursion (λ item. name ≢ item.name) items → amount_on name items ≡ pos 0
+amount_none name items others = ap (λ (is : List FlowItem). total (map (λ item. item.amount) is)) (bearing_none item_name name items others)
+
+-- an item names a bound of the part, or none of the bounds
+abbrev IsSettled : List Priced → List Priced → FlowItem → Type 0
+IsSettled part bounds item = AllByRecursion (λ name. item.name ≢ name) (names_of bounds) ⊎ Contains (names_of part) item.name
+
+settled_cases : (first : Priced) (part bounds : List Priced) → AllByRecursion (λ name. name_of first ≢ name) (names_of bounds) → (item : FlowItem) → (name_of first ≡ item.name) ⊎ Contains (names_of part) item.name → IsSettled part bounds item
+settled_cases first part bounds apart item (inl e) = inl (subst (λ n. AllByRecursion (λ name. n ≢ name) (names_of bounds)) e apart)
+settled_cases first part bounds apart item (inr later) = inr later
+
+settled_kept : (first : Priced) (part bounds : List Priced) → AllByRecursion (λ name. name_of first ≢ name) (names_of bounds) → (item : FlowItem) → IsSettled (first ∷ part) (first ∷ bounds) item → IsSettled part bounds item
+settled_kept first part bounds apart item (inl others) = inl others.1
+settled_kept first part bounds apart item (inr h) = settled_cases first part bounds apart item (contains_cases (name_of first) (names_of part) item.name h)
+
+settled_left_out : (first : Priced) (part bounds : List Priced) (item : FlowItem) → IsSettled part (first ∷ bounds) item → IsSettled part bounds item
+settled_left_out first part bounds item (inl others) = inl others.1
+settled_left_out first part bounds item (inr h) = inr h
+
+not_named : (first : Priced) (part bounds : List Priced) → IsPart part bounds → Distinct (names_of (first ∷ bounds)) → (item : FlowItem) → IsSettled part (first ∷ bounds) item → name_of first ≢ item.name
+not_named first part bounds is_part distinct item (inl others) = λ e. others.0 (sym e)
+not_named first part bounds is_part distinct item (inr h) = not_left_out item.name first is_part distinct h
+
+spread_of : (items : List FlowItem) {part bounds : List Priced} → IsPart part bounds → Distinct (names_of bounds) → AllByRecursion (IsSettled part bounds) items → IsSpread part (amounts_of items part) bounds (amounts_of items bounds)
+spread_of items none distinct settled = no_bounds
+spread_of items (kept {x = first} {part = part} {whole = bounds} rest) distinct settled =
+    same_amount (spread_of items rest distinct.1 (all_weaker (IsSettled (first ∷ part) (first ∷ bounds)) (IsSettled part bounds) (settled_kept first part bounds distinct.0) items settled))
+spread_of items (left_out {x = first} {part = part} {whole = bounds} rest) distinct settled =
+    let idle : pos 0 ≡ amount_on (name_of first) items = sym (amount_none (name_of first) items (all_weaker (IsSettled part (first ∷ bounds)) (λ item. name_of first ≢ item.name) (not_named first part bounds rest distinct) items settled)) in
+    let others = spread_of items rest distinct.1 (all_weaker (IsSettled part (first ∷ bounds)) (IsSettled part bounds) (settled_left_out first part bounds) items settled) in
+    subst (λ amount. IsSpread part (amounts_of items part) (first ∷ bounds) (amount ∷ amounts_of items bounds)) idle (no_amount others)
+
+pub spread : ItemsSpread
+spread part bounds items is_part distinct over = (
+  record {
+    named = still_named (map item_name items) is_part over.named;
+    distinct = over.distinct;
+    some = over.some;
+  },
+  spread_of items is_part distinct (all_weaker (λ item. Contains (names_of part) item.name) (IsSettled part bounds) (λ item h. inr h) items (all_from_map (Contains (names_of part)) item_name items over.named)),
+)
+
+-- ---- the items of a flow
+
+with_part : (name : BoundName) (amount : ℤ) (items : List FlowItem) (names : List BoundName) → IsPart (map item_name items) names → IsPart (map item_name (with_item name amount items)) (name ∷ names)
+with_part name (pos zero) items names rest = left_out rest
+with_part name (pos (suc n)) items names rest = kept rest
+with_part name (negsuc n) items names rest = kept rest
+
+-- the items name bounds in the order of the bounds, no bound twice
+pub items_part : (bounds : List Priced) (flow : List ℤ) → IsPart (map (λ item. item.name) (items_of bounds flow)) (names_of bounds)
+items_part [] flow = none
+items_part (priced ∷ bounds) (amount ∷ flow) = with_part (name_of priced) amount (items_of bounds flow) (names_of bounds) (items_part bounds flow)
+items_part (priced ∷ bounds) [] = left_out (part_none (names_of bounds))
+
+some_with : (name : BoundName) (amount : ℤ) (items : List FlowItem) → pos 0 ≤ℤ amount → AllByRecursion (λ item. pos 1 ≤ℤ item.amount) items → AllByRecursion (λ item. pos 1 ≤ℤ item.amount) (with_item name amount items)
+some_with name (pos zero) items low some = some
+some_with name (pos (suc n)) items low some = (omega (arith, ints), some)
+some_with name (negsuc n) items low some = absurd (omega (arith, ints))
+
+items_some : (bounds : List Priced) (flow : List ℤ) → AllZip (λ priced amount. pos 0 ≤ℤ amount) bounds flow → AllByRecursion (λ item. pos 1 ≤ℤ item.amount) (items_of bounds flow)
+items_some [] flow low = tt
+items_some (priced ∷ bounds) (amount ∷ flow) low = some_with (name_of priced) amount (items_of bounds flow) low.0 (items_some bounds flow low.1)
+items_some (priced ∷ bounds) [] low = tt
+
+all_named : (names : List BoundName) (all : List BoundName) → IsPart names all → AllByRecursion (Contains all) names
+all_named names all is_part = recursion_from_All (Contains all) names (All-weaker (Contains names) (Contains all) (part_contains is_part) names (All-contains_itself names))
+
+-- ---- what the items tell
+
+own_amount : (name : BoundName) (amount : ℤ) (items : List FlowItem) → amount_on name items ≡ pos 0 → amount_on name (with_item name amount items) ≡ amount
+own_amount name (pos zero) items nothing = nothing
+own_amount name (pos (suc n)) items nothing =
+    ap (λ (is : List FlowItem). total (map (λ item. item.amount) is)) (bearing_passes item_name (record { name = name; amount = pos (suc n) }) items)
+    ∙ omega (arith, ints, nothing)
+own_amount name (negsuc n) items nothing =
+    ap (λ (is : List FlowItem). total (map (λ item. item.amount) is)) (bearing_passes item_name (record { name = name; amount = negsuc n }) items)
+    ∙ omega (arith, ints, nothing)
+
+other_amount : (name other : BoundName) (amount : ℤ) (items : List FlowItem) → name ≢ other → amount_on name (with_item other amount items) ≡ amount_on name items
+other_amount name other (pos zero) items apart = refl
+other_amount name other (pos (suc n)) items apart = ap (λ (is : List FlowItem). total (map (λ item. item.amount) is)) (bearing_skips item_name name (record { name = other; amount = pos (suc n) }) items apart)
+other_amount name other (negsuc n) items apart = ap (λ (is : List FlowItem). total (map (λ item. item.amount) is)) (bearing_skips item_name name (record { name = other; amount = negsuc n }) items apart)
+
+other_amounts : (name : BoundName) (amount : ℤ) (items : List FlowItem) (bounds : List Priced) → AllByRecursion (λ other. name ≢ other) (names_of bounds) → amounts_of (with_item name amount items) bounds ≡ amounts_of items bounds
+other_amounts name amount items [] apart = refl
+other_amounts name amount items (priced ∷ bounds) apart =
+    let here : amount_on (name_of priced) (with_item name amount items) ≡ amount_on (name_of priced) items = other_amount (name_of priced) name amount items (λ e. apart.0 (sym e)) in
+    let rest = other_amounts name amount items bounds apart.1 in
+    λ i. here i ∷ rest i
+
+-- where no two bounds share a name, the items of a flow tell that flow
+pub items_tell : (bounds : List Priced) (flow : List ℤ) → length flow ≡ length bounds → Distinct (names_of bounds) → amounts_of (items_of bounds flow) bounds ≡ flow
+items_tell [] [] long distinct = refl
+items_tell [] (amount ∷ flow) long distinct = absurd (omega arith)
+items_tell (priced ∷ bounds) [] long distinct = absurd (omega arith)
+items_tell (priced ∷ bounds) (amount ∷ flow) long distinct =
+    let items = items_of bounds flow in
+    let apart = all_from_map (λ name. name_of priced ≢ name) item_name items (part_all (λ name. name_of priced ≢ name) (items_part bounds flow) distinct.0) in
+    let own = own_amount (name_of priced) amount items (amount_none (name_of priced) items apart) in
+    let rest = other_amounts (name_of priced) amount items bounds distinct.0 ∙ items_tell bounds flow (omega arith) distinct.1 in
+    λ i. own i ∷ rest i
+
+pub tell : ItemsTellFlows
+tell bounds flow distinct low = (
+  record {
+    named = all_named (map item_name (items_of bounds flow)) (names_of bounds) (items_part bounds flow);
+    distinct = part_distinct (items_part bounds flow) distinct;
+    some = items_some bounds flow low;
+  },
+  items_tell bounds flow (all_zip_long (λ priced amount. pos 0 ≤ℤ amount) bounds flow low) distinct,
+)
