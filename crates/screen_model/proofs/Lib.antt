@@ -1,5 +1,6 @@
 pub mod Cycles
 pub mod Duality
+pub mod Examples
 pub mod Gains
 pub mod Names
 pub mod Pulls

@@ -1,5 +1,5 @@
 -- Bounds and flows that are told by names.
-use Rattle.std.proofs.Common.{◌≡◌, ◌≢◌, zero, suc, Bool, true, false, cond, ◌⊎◌, inl, inr, ℤ, pos, negsuc, ◌+ℤ◌, ◌≤ℤ◌, List, [], ◌∷◌, ◌++◌, length, map, refl, sym, ap, ◌∙◌, subst, arith}
+use Rattle.std.proofs.Common.{◌≡◌, ◌≢◌, zero, suc, Bool, true, false, cond, if◌then◌else◌, ◌⊎◌, inl, inr, ℤ, pos, negsuc, ◌+ℤ◌, ◌*ℤ◌, ◌≤ℤ◌, List, [], ◌∷◌, ◌++◌, length, map, refl, sym, ap, ◌∙◌, subst, arith}
 use Rattle.std.specs.Prelude.{Contains, filter}
 use Rattle.std.specs.List.{AllByRecursion, AllZip}
 use Rattle.std.proofs.lemmas.Bool.{eqb-true, eq-eqb, and_from, and_parts, false≢true, false_from_ne_true}
@@ -9,12 +9,14 @@ use Rattle.screen_model.specs.declared.bound.BoundName.{BoundName}
 use Rattle.screen_model.specs.declared.bound.FlowItem.{FlowItem}
 use Rattle.screen_model.specs.declared.bound.Side.{Side}
 use Rattle.screen_model.specs.declared.bound.Side.TheVariants.{Up, Down}
-use Rattle.words.specs.Lists.{Distinct, IsPart, none, kept, left_out, total}
+use Rattle.words.specs.Lists.{Distinct, IsPart, none, kept, left_out, total, inner_product}
+use Rattle.std.proofs.Math.IntN.{zero-*ℤ}
+use Rattle.words.proofs.Products.{sum_mul}
 use Rattle.words.proofs.Lists.{all_weaker, all_zip_long, all_at, all_from_map, contains_cases, contains_none, contains_map}
 use Rattle.words.proofs.Parts.{part_of_itself, part_none, part_map, part_all, part_distinct, part_contains}
 use Rattle.screen_model.specs.Obeys.{Priced}
-use Rattle.screen_model.specs.Names.{is_same_side, is_same_name, names_of, AreNamesIn, bounds_named, amount_on, amounts_of, IsFlowOver, with_item, items_of}
-use Rattle.screen_model.specs.Parts.{IsSpread, no_bounds, same_amount, no_amount, ItemsTellFlows, ItemsSpread, NamesStay}
+use Rattle.screen_model.specs.Names.{is_same_side, is_same_name, names_of, AreNamesIn, bounds_named, amount_on, amounts_of, IsFlowOver, with_item, items_of, ItemsTellFlows, ItemsCount}
+use Rattle.screen_model.specs.Parts.{IsSpread, no_bounds, same_amount, no_amount, ItemsSpread, NamesStay}
 
 -- ---- names
 
@@ -233,3 +235,71 @@ tell bounds flow distinct low = (
   },
   items_tell bounds flow (all_zip_long (λ priced amount. pos 0 ≤ℤ amount) bounds flow low) distinct,
 )
+
+-- ---- what items count for
+
+-- an amount on the bounds of a name, and 0 on the others
+abbrev on_name : BoundName → ℤ → List Priced → List ℤ
+on_name name amount bounds = map (λ priced. if is_same_name (name_of priced) name then amount else pos 0) bounds
+
+-- the one bound of a name, and what an amount on it counts for
+record OneBound (f : Priced → ℤ) (name : BoundName) (amount : ℤ) (bounds : List Priced) : Type 0 where
+  bound : Priced
+  alone : bearing name_of name bounds ≡ bound ∷ []
+  counts : inner_product (on_name name amount bounds) (map f bounds) ≡ amount *ℤ f bound
+
+on_none : (f : Priced → ℤ) (name : BoundName) (amount : ℤ) (bounds : List Priced) → AllByRecursion (λ priced. name ≢ name_of priced) bounds → inner_product (on_name name amount bounds) (map f bounds) ≡ pos 0
+on_none f name amount [] apart = refl
+on_none f name amount (priced ∷ bounds) apart =
+    let idle : (if is_same_name (name_of priced) name then amount else pos 0) ≡ pos 0 = ap (λ same. if same then amount else pos 0) (other_name (name_of priced) name (λ e. apart.0 (sym e))) in
+    omega (arith, ints, ap (λ a. a *ℤ f priced) idle, zero-*ℤ (f priced), on_none f name amount bounds apart.1)
+
+one_bound_cases : (f : Priced → ℤ) (name : BoundName) (amount : ℤ) (first : Priced) (bounds : List Priced) → Distinct (names_of (first ∷ bounds)) → (name_of first ≡ name) ⊎ Contains (names_of bounds) name
+    → (Contains (names_of bounds) name → OneBound f name amount bounds) → OneBound f name amount (first ∷ bounds)
+one_bound_cases f name amount first bounds distinct (inl e) rest =
+    let apart = all_from_map (λ other. name_of first ≢ other) name_of bounds distinct.0 in
+    let own : (if is_same_name (name_of first) (name_of first) then amount else pos 0) ≡ amount = ap (λ same. if same then amount else pos 0) (same_name (name_of first)) in
+    let one : OneBound f (name_of first) amount (first ∷ bounds) = record {
+      bound = first;
+      alone = bearing_passes name_of first bounds ∙ ap (λ ps. first ∷ ps) (bearing_none name_of (name_of first) bounds apart);
+      counts = omega (arith, ints, ap (λ a. a *ℤ f first) own, on_none f (name_of first) amount bounds apart);
+    } in
+    subst (λ n. OneBound f n amount (first ∷ bounds)) e one
+one_bound_cases f name amount first bounds distinct (inr later) rest =
+    let apart : name_of first ≢ name = all_at (λ other. name_of first ≢ other) (names_of bounds) name distinct.0 later in
+    let one = rest later in
+    let idle : (if is_same_name (name_of first) name then amount else pos 0) ≡ pos 0 = ap (λ same. if same then amount else pos 0) (other_name (name_of first) name apart) in
+    record {
+      bound = one.bound;
+      alone = bearing_skips name_of name first bounds (λ e. apart (sym e)) ∙ one.alone;
+      counts = omega (arith, ints, ap (λ a. a *ℤ f first) idle, zero-*ℤ (f first), one.counts);
+    }
+
+one_bound : (f : Priced → ℤ) (name : BoundName) (amount : ℤ) (bounds : List Priced) → Distinct (names_of bounds) → Contains (names_of bounds) name → OneBound f name amount bounds
+one_bound f name amount [] distinct h = absurd (contains_none name h)
+one_bound f name amount (first ∷ bounds) distinct h = one_bound_cases f name amount first bounds distinct (contains_cases (name_of first) (names_of bounds) name h) (one_bound f name amount bounds distinct.1)
+
+added : (item : FlowItem) (items : List FlowItem) (same : Bool) → total (map (λ item. item.amount) (cond same (item ∷ items) items)) ≡ (if same then item.amount else pos 0) +ℤ total (map (λ item. item.amount) items)
+added item items true = refl
+added item items false = omega (arith, ints)
+
+one_item_more : (f : Priced → ℤ) (item : FlowItem) (items : List FlowItem) (bounds : List Priced)
+    → inner_product (amounts_of (item ∷ items) bounds) (map f bounds) ≡ inner_product (on_name item.name item.amount bounds) (map f bounds) +ℤ inner_product (amounts_of items bounds) (map f bounds)
+one_item_more f item items [] = refl
+one_item_more f item items (priced ∷ bounds) =
+    let own : ℤ = if is_same_name (name_of priced) item.name then item.amount else pos 0 in
+    let rest = amount_on (name_of priced) items in
+    omega (arith, ints, ap (λ a. a *ℤ f priced) (added item (bearing item_name (name_of priced) items) (is_same_name (name_of priced) item.name)), sum_mul own rest (f priced), one_item_more f item items bounds)
+
+no_items : (f : Priced → ℤ) (bounds : List Priced) → inner_product (amounts_of [] bounds) (map f bounds) ≡ pos 0
+no_items f [] = refl
+no_items f (priced ∷ bounds) = omega (arith, ints, zero-*ℤ (f priced), no_items f bounds)
+
+pub count : ItemsCount
+count bounds [] f distinct named = no_items f bounds
+count bounds (item ∷ items) f distinct named =
+    let one = one_bound f item.name item.amount bounds distinct named.0 in
+    let rest = bounds_named (map item_name items) bounds in
+    let counted : inner_product (item.amount ∷ map (λ item. item.amount) items) (map f (bearing name_of item.name bounds ++ rest)) ≡ (item.amount *ℤ f one.bound) +ℤ inner_product (map (λ item. item.amount) items) (map f rest)
+      = ap (λ ps. inner_product (item.amount ∷ map (λ item. item.amount) items) (map f (ps ++ rest))) one.alone in
+    omega (arith, ints, one_item_more f item items bounds, one.counts, count bounds items f distinct named.1, counted)

@@ -1,11 +1,11 @@
 -- To be believed: bounds told by their names, in lists of bounds of which no two share a name.
-use Rattle.std.specs.Prelude.{ℤ, pos, ◌≤ℤ◌, zero, Bool, true, false, ◌&&◌, ◌==◌, List, [], ◌∷◌, ◌++◌, map, filter, Contains}
-use Rattle.std.specs.List.{AllByRecursion}
+use Rattle.std.specs.Prelude.{◌≡◌, ℤ, pos, ◌≤ℤ◌, zero, Bool, true, false, ◌&&◌, ◌==◌, List, [], ◌∷◌, ◌++◌, map, filter, Contains}
+use Rattle.std.specs.List.{AllByRecursion, AllZip}
 use Rattle.screen_model.specs.declared.bound.BoundName.{BoundName}
 use Rattle.screen_model.specs.declared.bound.FlowItem.{FlowItem}
 use Rattle.screen_model.specs.declared.bound.Side.{Side}
 use Rattle.screen_model.specs.declared.bound.Side.TheVariants.{Up, Down}
-use Rattle.words.specs.Lists.{Distinct, total}
+use Rattle.words.specs.Lists.{Distinct, total, inner_product}
 use Rattle.screen_model.specs.Obeys.{Priced}
 
 abbrev pub is_same_side : Side → Side → Bool
@@ -53,3 +53,16 @@ abbrev pub items_of : List Priced → List ℤ → List FlowItem
 items_of (priced ∷ bounds) (amount ∷ flow) = with_item priced.bound.name amount (items_of bounds flow)
 items_of [] flow = []
 items_of (priced ∷ bounds) [] = []
+
+-- The items of a flow tell that flow.
+abbrev pub ItemsTellFlows : Type 0
+ItemsTellFlows = (bounds : List Priced) (flow : List ℤ) → Distinct (names_of bounds) → AllZip (λ priced amount. pos 0 ≤ℤ amount) bounds flow
+    → IsFlowOver bounds (items_of bounds flow) × (amounts_of (items_of bounds flow) bounds ≡ flow)
+
+-- Whatever an amount on a bound counts for, the items count, each on the bound of its name, for as much as the flow
+-- that they tell.
+abbrev pub ItemsCount : Type 0
+ItemsCount = (bounds : List Priced) (items : List FlowItem) (worth : Priced → ℤ) → Distinct (names_of bounds)
+    → AreNamesIn bounds (map (λ item. item.name) items)
+    → inner_product (amounts_of items bounds) (map worth bounds)
+      ≡ inner_product (map (λ item. item.amount) items) (map worth (bounds_named (map (λ item. item.name) items) bounds))

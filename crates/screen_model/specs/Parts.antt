@@ -1,13 +1,12 @@
 -- To be believed: what holds of a part of a list of bounds and of the whole list.
-use Rattle.std.specs.Prelude.{◌≡◌, ℤ, pos, ◌≤ℤ◌, List, [], ◌∷◌}
-use Rattle.std.specs.List.{AllZip}
+use Rattle.std.specs.Prelude.{◌≡◌, ℤ, pos, List, [], ◌∷◌}
 use Rattle.screen_model.specs.declared.bound.BoundName.{BoundName}
 use Rattle.screen_model.specs.declared.bound.FlowItem.{FlowItem}
 use Rattle.words.specs.Lists.{Distinct, IsPart}
 use Rattle.screen_model.specs.Obeys.{Priced}
 use Rattle.screen_model.specs.Cost.{Problem}
 use Rattle.screen_model.specs.Flow.{IsAdmissible, dual_value}
-use Rattle.screen_model.specs.Names.{names_of, AreNamesIn, bounds_named, amounts_of, IsFlowOver, items_of}
+use Rattle.screen_model.specs.Names.{names_of, AreNamesIn, bounds_named, amounts_of, IsFlowOver}
 use Rattle.screen_model.specs.Best.{IsBlocked}
 
 -- The flow over a part of the bounds, spread over all of them: on those that are left out nothing flows.
@@ -27,11 +26,6 @@ PartFlowsCount = (problem : Problem) (part : List Priced) (flow spread : List �
 -- A cycle of a part of the bounds that is blocked is a blocked one of all.
 abbrev pub PartCyclesBlock : Type 0
 PartCyclesBlock = (part bounds cycle : List Priced) → IsPart part bounds → IsBlocked part cycle → IsBlocked bounds cycle
-
--- The items of a flow tell that flow.
-abbrev pub ItemsTellFlows : Type 0
-ItemsTellFlows = (bounds : List Priced) (flow : List ℤ) → Distinct (names_of bounds) → AllZip (λ priced amount. pos 0 ≤ℤ amount) bounds flow
-    → IsFlowOver bounds (items_of bounds flow) × (amounts_of (items_of bounds flow) bounds ≡ flow)
 
 -- Items that tell a flow over a part of the bounds tell over all of them that flow, spread.
 abbrev pub ItemsSpread : Type 0
