@@ -7,7 +7,6 @@ use Rattle.screen_model.specs.declared.place.End.TheVariants.{Zero, At}
 use Rattle.screen_model.specs.declared.bound.Side.{Side}
 use Rattle.screen_model.specs.declared.bound.Side.TheVariants.{Up, Down}
 use Rattle.screen_model.specs.declared.bound.BoundName.{BoundName}
-use Rattle.screen_model.specs.declared.bound.Bound.{Bound}
 use Rattle.screen_model.specs.declared.bound.FlowItem.{FlowItem}
 use Rattle.words.specs.Lists.{IsPart, kept, left_out, none, total}
 use Rattle.screen_model.specs.Obeys.{Priced, Obeys, with_prices}

@@ -2,7 +2,7 @@
 use Rattle.std.proofs.Common.{◌≡◌, ◌≢◌, ℕ, ◌≤◌, Bool, true, false, if◌then◌else◌, ℤ, pos, ◌-ℤ◌, ◌*ℤ◌, ◌≤ℤ◌, List, [], ◌∷◌, length, map, refl, sym, ap, ◌∙◌, subst, arith}
 use Rattle.std.specs.Prelude.{unsigned_abs}
 use Rattle.std.specs.List.{AllByRecursion, AllZip}
-use Rattle.std.proofs.lemmas.Bool.{eqb-true, and_parts, false≢true, false_from_ne_true}
+use Rattle.std.proofs.lemmas.Bool.{false≢true, false_from_ne_true}
 use Rattle.std.proofs.lemmas.Int.{ints}
 use Rattle.std.proofs.Math.IntN.{*ℤ_comm, *ℤ-zero, *ℤ-one}
 use Rattle.screen_model.specs.declared.place.Place.{Place}
@@ -13,26 +13,10 @@ use Rattle.words.specs.Lists.{Distinct, inner_product}
 use Rattle.words.proofs.Products.{minus_mul, mul-le_sizes}
 use Rattle.words.proofs.InnerProducts.{inner_product-map_zero, inner_product-map_minus, inner_product-map_same, inner_product-exchange}
 use Rattle.screen_model.specs.Series.{is_same_place, reading_at, value_at}
+use Rattle.screen_model.proofs.Places.{place_from_same, other_place, turned}
 use Rattle.screen_model.specs.Obeys.{Priced, rise}
 use Rattle.screen_model.specs.Cost.{weighted_change}
 use Rattle.screen_model.specs.Flow.{one_at, unit_pull, pull}
-
--- ---- places
-
-pub same_place : (p q : Place) → is_same_place p q ≡ true → p ≡ q
-same_place p q h =
-    let parts = and_parts _ _ h in
-    let row = eqb-true p.row q.row parts.0 in
-    let col = eqb-true p.col q.col parts.1 in
-    λ i. record { row = row i; col = col i }
-
-pub other_place : (p q : Place) → p ≢ q → is_same_place p q ≡ false
-other_place p q h = false_from_ne_true (is_same_place p q) (λ same. h (same_place p q same))
-
-turned : (p q : Place) → is_same_place p q ≡ true → is_same_place q p ≡ true
-turned p q h =
-    let same = same_place p q h in
-    ap (λ r. is_same_place r p) (sym same) ∙ ap (λ r. is_same_place p r) same ∙ h
 
 -- ---- the value at an end, as a sum over the readings
 
@@ -53,7 +37,7 @@ at_first : (q p : Place) (places : List Place) (x : ℤ) (series : List ℤ) (sa
 at_first q p places x series true e apart rest =
     let here : one_at p (At q) ≡ pos 1 = ap (λ same. if same then pos 1 else pos 0) (turned q p e) in
     let read : reading_at (p ∷ places) (x ∷ series) q ≡ x = ap (λ same. if same then x else reading_at places series q) e in
-    let none = at_none q places series (subst (λ r. AllByRecursion (λ y. r ≢ y) places) (sym (same_place q p e)) apart) in
+    let none = at_none q places series (subst (λ r. AllByRecursion (λ y. r ≢ y) places) (sym (place_from_same q p e)) apart) in
     omega (arith, ints, ap (λ u. x *ℤ u) here, *ℤ-one x, read, none)
 at_first q p places x series false e apart rest =
     let away : one_at p (At q) ≡ pos 0 = ap (λ same. if same then pos 1 else pos 0) (false_from_ne_true (is_same_place p q) (λ h. false≢true (sym e ∙ turned p q h))) in

@@ -1,5 +1,5 @@
 -- Flows over a part of a list of bounds, spread over all of them; cycles of a part.
-use Rattle.std.proofs.Common.{◌≡◌, ℕ, ◌≤◌, ℤ, pos, neg_ℤ, ◌-ℤ◌, List, map, refl, sym, ap, ◌∙◌, subst, arith}
+use Rattle.std.proofs.Common.{◌≡◌, ◌≤◌, ℤ, neg_ℤ, ◌-ℤ◌, List, map, refl, sym, ap, ◌∙◌, subst, arith}
 use Rattle.std.specs.Prelude.{Contains, unsigned_abs}
 use Rattle.std.specs.List.{AllZip}
 use Rattle.std.proofs.lemmas.Int.{ints}
@@ -29,14 +29,13 @@ same_pull spread p = same_sum (λ priced. unit_pull p priced.bound) spread
 pub counts : PartFlowsCount
 counts problem part flow spread is_spread admissible =
     let same : pull part flow ≡ pull problem.bounds spread = λ i p. sym (same_pull is_spread p) i in
-    let limits = same_sum (λ priced. priced.bound.limit) is_spread in
-    (
+    let limits = same_sum (λ priced. priced.bound.limit) is_spread in (
       record {
         amounts = still_carry is_spread admissible.amounts;
         pulls = subst (λ (pulls : Place → ℤ). AllZip (λ p weight. unsigned_abs (pulls p) ≤ weight) problem.places problem.weights) same admissible.pulls;
       },
       ap (λ limited. neg_ℤ limited -ℤ inner_product problem.values (map (pull problem.bounds spread) problem.places)) limits
-      ∙ ap (λ (pulls : Place → ℤ). neg_ℤ (inner_product flow (map (λ priced. priced.bound.limit) part)) -ℤ inner_product problem.values (map pulls problem.places)) (sym same),
+          ∙ ap (λ (pulls : Place → ℤ). neg_ℤ (inner_product flow (map (λ priced. priced.bound.limit) part)) -ℤ inner_product problem.values (map pulls problem.places)) (sym same),
     )
 
 pub block : PartCyclesBlock

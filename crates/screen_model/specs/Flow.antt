@@ -1,6 +1,6 @@
 -- To be believed: flows on bounds, the dual of the least cost. A flow over a list of bounds is a list of amounts, one for
 -- each bound, at the bound's place: so much flows on it from its first end to its second, 0 where nothing does.
-use Rattle.std.specs.Prelude.{ℕ, ◌<◌, ◌≤◌, ℤ, pos, neg_ℤ, ◌-ℤ◌, ◌≤ℤ◌, if◌then◌else◌, List, map, unsigned_abs}
+use Rattle.std.specs.Prelude.{◌<◌, ◌≤◌, ℤ, pos, neg_ℤ, ◌-ℤ◌, ◌≤ℤ◌, if◌then◌else◌, List, map, unsigned_abs}
 use Rattle.std.specs.List.{AllZip}
 use Rattle.screen_model.specs.declared.place.Place.{Place}
 use Rattle.screen_model.specs.declared.place.End.{End}

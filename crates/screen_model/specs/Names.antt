@@ -65,4 +65,4 @@ abbrev pub ItemsCount : Type 0
 ItemsCount = (bounds : List Priced) (items : List FlowItem) (worth : Priced → ℤ) → Distinct (names_of bounds)
     → AreNamesIn bounds (map (λ item. item.name) items)
     → inner_product (amounts_of items bounds) (map worth bounds)
-      ≡ inner_product (map (λ item. item.amount) items) (map worth (bounds_named (map (λ item. item.name) items) bounds))
+    ≡ inner_product (map (λ item. item.amount) items) (map worth (bounds_named (map (λ item. item.name) items) bounds))

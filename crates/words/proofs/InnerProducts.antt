@@ -42,10 +42,13 @@ inner_product-map_same f g same (x ∷ xs) [] = refl
 pub inner_product-exchange : {A B : Type 0} (m : A → B → ℤ) (xs : List ℤ) (rows : List A) (ys : List ℤ) (columns : List B)
     → inner_product xs (map (λ a. inner_product ys (map (m a) columns)) rows) ≡ inner_product ys (map (λ b. inner_product xs (map (λ a. m a b) rows)) columns)
 inner_product-exchange m xs rows (y ∷ ys) (b ∷ columns) =
-    omega (arith, ints,
+    omega (
+      arith,
+      ints,
       inner_product-map_sum (λ a. y *ℤ m a b) (λ a. inner_product ys (map (m a) columns)) xs rows,
       inner_product-map_scaled y (λ a. m a b) xs rows,
-      inner_product-exchange m xs rows ys columns)
+      inner_product-exchange m xs rows ys columns,
+    )
 inner_product-exchange m xs rows [] columns = inner_product-map_zero xs rows
 inner_product-exchange m xs rows (y ∷ ys) [] = inner_product-map_zero xs rows
 

@@ -16,6 +16,10 @@ pub all_append : {A : Type 0} (P : A → Type 0) (xs ys : List A) → AllByRecur
 all_append P [] ys a b = b
 all_append P (x ∷ xs) ys a b = (a.0, all_append P xs ys a.1 b)
 
+pub all_of_append : {A : Type 0} (P : A → Type 0) (xs ys : List A) → AllByRecursion P (xs ++ ys) → AllByRecursion P xs × AllByRecursion P ys
+all_of_append P [] ys all = (tt, all)
+all_of_append P (x ∷ xs) ys all = let rest = all_of_append P xs ys all.1 in ((all.0, rest.0), rest.1)
+
 pub all_push : {A : Type 0} (P : A → Type 0) (xs : List A) (x : A) → AllByRecursion P xs → P x → AllByRecursion P (xs ++ x ∷ [])
 all_push P xs x all here = all_append P xs (x ∷ []) all (here, tt)
 

@@ -32,17 +32,23 @@ mul_minus k a b = omega (arith, ints, mul_sum k (a -ℤ b) b, ap (λ x. k *ℤ x
 pub minus_mul : (a b k : ℤ) → (a -ℤ b) *ℤ k ≡ (a *ℤ k) -ℤ (b *ℤ k)
 minus_mul a b k = omega (arith, ints, sum_mul (a -ℤ b) b k, ap (λ x. x *ℤ k) (back a b))
 
-pub neg_mul : (a k : ℤ) → (pos 0 -ℤ a) *ℤ k ≡ pos 0 -ℤ (a *ℤ k)
-neg_mul a k = omega (arith, ints, minus_mul (pos 0) a k, zero-*ℤ k)
+pub zero_minus_mul : (a k : ℤ) → (pos 0 -ℤ a) *ℤ k ≡ pos 0 -ℤ (a *ℤ k)
+zero_minus_mul a k = omega (arith, ints, minus_mul (pos 0) a k, zero-*ℤ k)
+
+zero_less : (x : ℤ) → neg_ℤ x ≡ pos 0 -ℤ x
+zero_less x = omega (arith, ints)
+
+pub neg_mul : (a k : ℤ) → neg_ℤ a *ℤ k ≡ neg_ℤ (a *ℤ k)
+neg_mul a k = ap (λ x. x *ℤ k) (zero_less a) ∙ zero_minus_mul a k ∙ sym (zero_less (a *ℤ k))
+
+pub mul_neg : (k a : ℤ) → k *ℤ neg_ℤ a ≡ neg_ℤ (k *ℤ a)
+mul_neg k a = *ℤ_comm k (neg_ℤ a) ∙ neg_mul a k ∙ ap neg_ℤ (*ℤ_comm a k)
 
 -- ---- of three factors
 
 swap_pos : (a b : ℤ) (k : ℕ) → a *ℤ (b *ℤ pos k) ≡ (a *ℤ b) *ℤ pos k
 swap_pos a b zero = omega (arith, ints, ap (λ x. a *ℤ x) (*ℤ-zero b), *ℤ-zero a, *ℤ-zero (a *ℤ b))
 swap_pos a b (suc k) = omega (arith, ints, ap (λ x. a *ℤ x) (mul_suc b k), mul_sum a (b *ℤ pos k) b, swap_pos a b k, mul_suc (a *ℤ b) k)
-
-zero_less : (x : ℤ) → neg_ℤ x ≡ pos 0 -ℤ x
-zero_less x = omega (arith, ints)
 
 pub mul_assoc : (a b c : ℤ) → (a *ℤ b) *ℤ c ≡ a *ℤ (b *ℤ c)
 mul_assoc a b (pos k) = sym (swap_pos a b k)
@@ -73,6 +79,10 @@ size_of_product x y m n g h = omega (arith, unsigned_abs-mul x y, mul-le (unsign
 pub within_size : (z : ℤ) (n : ℕ) → unsigned_abs z ≤ n → (neg_ℤ (pos n) ≤ℤ z) × (z ≤ℤ pos n)
 within_size (pos a) n h = (omega (arith, ints, h), omega (arith, ints, h))
 within_size (negsuc a) n h = (omega (arith, ints, h), omega (arith, ints, h))
+
+pub size_within : (z : ℤ) (n : ℕ) → neg_ℤ (pos n) ≤ℤ z → z ≤ℤ pos n → unsigned_abs z ≤ n
+size_within (pos a) n low high = omega (arith, ints)
+size_within (negsuc a) n low high = omega (arith, ints)
 
 pub size_of_minus : (z : ℤ) → unsigned_abs (pos 0 -ℤ z) ≡ unsigned_abs z
 size_of_minus (pos zero) = refl

@@ -1,4 +1,4 @@
-use Rattle.screen_model.proofs.Names.{spread}
+use Rattle.screen_model.proofs.Items.{spread}
 use Rattle.screen_model.proofs.laws.items_spread.Goals as goal
 
 pub returns : goal.returns

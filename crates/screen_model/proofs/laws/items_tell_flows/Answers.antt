@@ -1,4 +1,4 @@
-use Rattle.screen_model.proofs.Names.{tell}
+use Rattle.screen_model.proofs.Items.{tell}
 use Rattle.screen_model.proofs.laws.items_tell_flows.Goals as goal
 
 pub returns : goal.returns
