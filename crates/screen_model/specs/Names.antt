@@ -14,9 +14,11 @@ is_same_side Down Down = true
 is_same_side Up Down = false
 is_same_side Down Up = false
 
+-- whether two names agree in all five parts
 abbrev pub is_same_name : BoundName → BoundName → Bool
 is_same_name m n = (m.rule == n.rule) && ((m.from_row == n.from_row) && ((m.to_row == n.to_row) && ((m.col == n.col) && is_same_side m.side n.side)))
 
+-- the names of bounds, in the order of the bounds
 abbrev pub names_of : List Priced → List BoundName
 names_of bounds = map (λ priced. priced.bound.name) bounds
 
@@ -29,7 +31,7 @@ abbrev pub bounds_named : List BoundName → List Priced → List Priced
 bounds_named [] bounds = []
 bounds_named (name ∷ names) bounds = filter (λ priced. is_same_name name priced.bound.name) bounds ++ bounds_named names bounds
 
--- what flows on the bound of a name: the amount of its item, and 0 where it has none
+-- what flows on the bound of a name: the amount of its item, or of all its items together; 0 where it has none
 abbrev pub amount_on : BoundName → List FlowItem → ℤ
 amount_on name items = total (map (λ item. item.amount) (filter (λ item. is_same_name name item.name) items))
 
