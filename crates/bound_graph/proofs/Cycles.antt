@@ -1,11 +1,10 @@
 -- Cycles of arcs, and those that are cycles of bounds.
-use Rattle.std.proofs.Common.{◌≡◌, ℕ, zero, suc, eqb, ℤ, negsuc, ◌+ℤ◌, ◌≤ℤ◌, List, [], ◌∷◌, length, get_or, map, Option, Some, Contains, refl, sym, ap, ◌∙◌, subst, arith}
+use Rattle.std.proofs.Common.{◌≡◌, ◌≢◌, ℕ, zero, suc, eqb, ℤ, negsuc, ◌+ℤ◌, ◌≤ℤ◌, List, [], ◌∷◌, length, get_or, map, Option, Some, Contains, refl, sym, ap, ◌∙◌, subst, arith}
 use Rattle.std.specs.Prelude.{slice_get}
 use Rattle.std.specs.List.{AllByRecursion}
 use Rattle.std.proofs.lemmas.Bool.{eqb-true}
 use Rattle.std.proofs.lemmas.Int.{ints}
 use Rattle.std.proofs.lemmas.List.{length-map}
-use Rattle.std.proofs.lemmas.List.Elements.{All-from_recursion, All-contains}
 use Rattle.std.proofs.lemmas.Option.{cond_some}
 use Rattle.words.specs.Lists.{Distinct, rotated, total}
 use Rattle.screen_model.specs.declared.place.Place.{Place}
@@ -18,7 +17,8 @@ use Rattle.bound_graph.specs.Arcs.{arc_at}
 use Rattle.bound_graph.specs.Graph.{node_of, index_of, arc_of_bound}
 use Rattle.bound_graph.specs.Values.{value_of, RespectsArc, RespectsIfThere, RespectsArcs}
 use Rattle.bound_graph.specs.Bridge.{unpriced_arcs, NegativeCycleBlocks, NegativeCycleForbids}
-use Rattle.bound_graph.proofs.Lists.{all_push, map-rotated, total-rotated, distinct_from_map}
+use Rattle.words.proofs.Lists.{all_at, all_push, map-rotated}
+use Rattle.words.proofs.Sums.{total-rotated}
 use Rattle.bound_graph.proofs.Nodes.{place_at_index, index_of_contained}
 
 -- ---- a cycle with a negative sum forbids
@@ -120,6 +120,15 @@ all_rotated : {A : Type 0} (P : A → Type 0) (xs : List A) → AllByRecursion P
 all_rotated P [] all = tt
 all_rotated P (x ∷ xs) all = all_push P xs x all.1 all.0
 
+apart_from_map : {A B : Type 0} (f : A → B) (x : A) (xs : List A) → AllByRecursion (λ y. f x ≢ y) (map f xs) → AllByRecursion (λ y. x ≢ y) xs
+apart_from_map f x [] apart = tt
+apart_from_map f x (y ∷ xs) apart = (λ same. apart.0 (ap f same), apart_from_map f x xs apart.1)
+
+-- what is distinct after a map was distinct before
+distinct_from_map : {A B : Type 0} (f : A → B) (xs : List A) → Distinct (map f xs) → Distinct xs
+distinct_from_map f [] distinct = tt
+distinct_from_map f (x ∷ xs) distinct = (apart_from_map f x xs distinct.0, distinct_from_map f xs distinct.1)
+
 -- the ends, nodes and costs of bounds and of their arcs
 abbrev firsts : List Priced → List End
 firsts cycle = map (λ priced. priced.bound.first) cycle
@@ -146,7 +155,7 @@ ends_of : (places : List Place) (bounds cycle : List Priced) → AllByRecursion 
 ends_of places bounds [] ends members = (tt, tt)
 ends_of places bounds (priced ∷ cycle) ends members =
     let Has = λ (p : Priced). HasEnds places p.bound in
-    let here = All-contains Has bounds priced (All-from_recursion Has bounds ends) members.0 in
+    let here = all_at Has bounds priced ends members.0 in
     let rest = ends_of places bounds cycle ends members.1 in
     ((here.0, rest.0), (here.1, rest.1))
 

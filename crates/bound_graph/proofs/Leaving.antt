@@ -1,16 +1,10 @@
 -- Which numbers are among those of the arcs that leave a node.
 use Rattle.std.proofs.Common.{◌≡◌, ℕ, zero, suc, ◌+◌, ◌<◌, ◌⊎◌, Bool, true, false, cond, eqb, List, [], ◌∷◌, length, get_or, Contains, refl, sym, ap, ◌∙◌, subst, inl, inr, ⊎_elim, arith}
 use Rattle.std.proofs.lemmas.Bool.{eqb-true, eq-eqb, cond-true}
+use Rattle.words.proofs.Lists.{contains_later, contains_cases}
 use Rattle.bound_graph.specs.declared.arc.Arc.{Arc}
 use Rattle.bound_graph.specs.Graph.{leaving, leaving_from}
 use Rattle.bound_graph.specs.Bridge.{Leaves, LeavingExactly}
-
-contains_cons : (x : ℕ) (xs : List ℕ) (y k : ℕ) → k < length (x ∷ xs) → get_or (x ∷ xs) k y ≡ y → (x ≡ y) ⊎ Contains xs y
-contains_cons x xs y zero h e = inl e
-contains_cons x xs y (suc k) h e = inr (k, omega arith, e)
-
-contains_later : (x : ℕ) (xs : List ℕ) (y : ℕ) → Contains xs y → Contains (x ∷ xs) y
-contains_later x xs y h = (suc h.0, omega (arith, h.1), h.2)
 
 -- the arc of a number, counted on from another, leaves the node
 record LeavesFrom (start : ℕ) (arcs : List Arc) (node number : ℕ) : Type 0 where
@@ -28,7 +22,7 @@ first_or_later : (start : ℕ) (arc : Arc) (arcs : List Arc) (node number : ℕ)
 first_or_later start arc arcs node number true e h rest = ⊎_elim
     (λ (first : start ≡ number). record { place = 0; is = omega arith; leaves = (arc, refl, eqb-true arc.tail node e) })
     (λ (others : Contains (leaving_from (start + 1) arcs node) number). later start arc arcs node number (rest others))
-    (contains_cons start (leaving_from (start + 1) arcs node) number h.0 h.1 h.2)
+    (contains_cases start (leaving_from (start + 1) arcs node) number h)
 first_or_later start arc arcs node number false e h rest = later start arc arcs node number (rest h)
 
 leaves_if_among : (start : ℕ) (arcs : List Arc) (node number : ℕ) → Contains (leaving_from start arcs node) number → LeavesFrom start arcs node number

@@ -3,7 +3,6 @@ pub mod Cycles
 pub mod Degrees
 pub mod Groups
 pub mod Leaving
-pub mod Lists
 pub mod Nodes
 pub mod Rows
 pub mod Values
