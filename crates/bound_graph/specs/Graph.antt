@@ -1,4 +1,4 @@
--- The graph of bounds.
+-- To be believed: the graph of bounds, and the arcs that leave a node.
 use Rattle.std.specs.Prelude.{ℕ, suc, ◌+◌, ◌==◌, if◌then◌else◌, List, [], ◌∷◌, length, map}
 use Rattle.screen_model.specs.declared.place.Place.{Place}
 use Rattle.screen_model.specs.declared.place.End.{End}
@@ -23,11 +23,15 @@ node_of places Zero = 0
 node_of places (At p) = suc (index_of places p)
 
 -- from the bound's first end to its second, for its limit
-abbrev pub arc_of : List Place → Bound → Arc
-arc_of places bound = record { tail = node_of places bound.first; head = node_of places bound.second; cost = bound.limit }
+abbrev pub arc_of_bound : List Place → Bound → Arc
+arc_of_bound places bound = record { tail = node_of places bound.first; head = node_of places bound.second; cost = bound.limit }
+
+-- the arcs of bounds, each under its bound's number
+abbrev pub arcs_of_bounds : List Place → List Bound → List Arc
+arcs_of_bounds places bounds = map (arc_of_bound places) bounds
 
 abbrev pub graph_of : List Place → List Bound → Digraph
-graph_of places bounds = record { nodes = length places + 1; arcs = map (arc_of places) bounds }
+graph_of places bounds = record { nodes = length places + 1; arcs = arcs_of_bounds places bounds }
 
 -- the numbers of the arcs that leave a node, in rising order; the first arc of the list has the number given
 abbrev pub leaving_from : ℕ → List Arc → ℕ → List ℕ

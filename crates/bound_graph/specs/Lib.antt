@@ -1,4 +1,7 @@
 pub mod Arcs
-pub mod Ends
+pub mod Bridge
+pub mod Cycle
 pub mod Graph
+pub mod Index
 pub mod Star
+pub mod Values

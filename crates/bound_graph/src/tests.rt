@@ -1,9 +1,13 @@
-ghost use Rattle.std.specs.Prelude.{◌≡◌, ◌<◌, ◌≤◌, ◌*◌, ◌^◌, length, unsigned_abs, IfOk};
+ghost use Rattle.std.specs.Prelude.{◌≡◌, ◌≢◌, ◌<◌, ◌≤◌, ◌*◌, ◌^◌, length, unsigned_abs, IfOk};
 ghost use Rattle.std.specs.List.{AllByRecursion};
 ghost use Rattle.words.specs.Lists.{Distinct};
 ghost use Rattle.screen_model.specs.Obeys.{HasEnds};
 
-use crate::{Arc, ArcList, ArcTable, Graph};
+use crate::{
+    Arc, ArcList, ArcTable, Graph, arcs_of_bounds, arcs_without_prices, distances_give_series,
+    leaving_exactly, less_first_respects, negative_cycle_blocks, negative_cycle_forbids,
+    obeying_is_respecting, values_at_ends,
+};
 use screen_model::{Bound, BoundList, BoundName, End, Place, Places, Side};
 use std::alloc::{AllocError, Global};
 use std::test::Fail;
@@ -59,6 +63,50 @@ fn range_of_one_reading(rt: HostRuntime) -> Result<(), Fail> {
     assert_eq!(rt; graph.arc(2), None);
     assert_eq!(rt; graph.out_arcs(0), [0].as_slice());
     assert_eq!(rt; graph.out_arcs(1), [1].as_slice());
+    Ok(())
+}
+
+/// The arcs of two bounds, from one reading to another and from that to Zero, where the readings have these rows.
+fn arcs_between(alloc: Global, first_row: u32, second_row: u32) -> Result<ArcTable, AllocError>
+    requires { first_row ≢ second_row }
+{
+    let first = Place {
+        row: first_row,
+        col: 2,
+    };
+    let second = Place {
+        row: second_row,
+        col: 2,
+    };
+    let mut places = Places::new(alloc);
+    places.push(first)?;
+    places.push(second)?;
+    let mut bounds = BoundList::new(alloc);
+    bounds.push(range_bound(Side::Up, End::At(first), End::At(second)))?;
+    bounds.push(range_bound(Side::Down, End::At(second), End::Zero))?;
+    arcs_of_bounds(alloc, &places, &bounds, 3)
+}
+
+#[test]
+fn arcs_do_not_depend_on_how_places_are_found(rt: HostRuntime) -> Result<(), Fail> {
+    let arcs = [
+        Arc {
+            tail: 1,
+            head: 2,
+            cost: RANGE,
+        },
+        Arc {
+            tail: 2,
+            head: 0,
+            cost: RANGE,
+        },
+    ];
+    let rising = arcs_between(rt.alloc(), 7, 9)?;
+    assert_eq!(rt; rising.as_slice(), arcs.as_slice());
+    let falling = arcs_between(rt.alloc(), 9, 7)?;
+    assert_eq!(rt; falling.as_slice(), arcs.as_slice());
+    let far = arcs_between(rt.alloc(), 7, 4_000_000_000)?;
+    assert_eq!(rt; far.as_slice(), arcs.as_slice());
     Ok(())
 }
 
@@ -168,5 +216,13 @@ fn many_bounds(rt: HostRuntime) -> Result<(), Fail> {
         graph.out_arcs(100_000),
         [99_999, 199_999, 299_999, 399_999].as_slice()
     );
+    arcs_without_prices();
+    values_at_ends();
+    obeying_is_respecting();
+    less_first_respects();
+    distances_give_series();
+    negative_cycle_blocks();
+    negative_cycle_forbids();
+    leaving_exactly();
     Ok(())
 }

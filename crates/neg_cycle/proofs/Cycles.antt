@@ -9,19 +9,13 @@ use Rattle.words.specs.Lists.{rotated, total}
 use Rattle.bound_graph.specs.declared.arc.Arc.{Arc}
 use Rattle.bound_graph.specs.Arcs.{arc_at}
 use Rattle.neg_cycle.specs.declared.forest.Parent.{Parent}
-use Rattle.neg_cycle.specs.Distances.{Keeps, Obeys}
-use Rattle.neg_cycle.specs.Cycle.{IsNegativeCycle}
+use Rattle.bound_graph.specs.Cycle.{IsNegativeCycle}
 use Rattle.neg_cycle.specs.Forest.{parent_at, IsParentCycle}
-use Rattle.neg_cycle.specs.Labels.{IsParentOf, IsWithin, IsLabelling, HoldsCycle, arc_of, arcs_of}
-use Rattle.neg_cycle.proofs.Rotations.{map-rotated, map-reverse, rotated-reverse-rotated, distinct_rotated, distinct_reverse}
-use Rattle.neg_cycle.proofs.Totals.{total-rotated, total-reverse}
-
--- the sum of a value over nodes, which is the same over the nodes in rotation
-abbrev over : (ℕ → ℤ) → List ℕ → ℤ
-over value nodes = total (map value nodes)
-
-over-rotated : (value : ℕ → ℤ) (nodes : List ℕ) → over value (rotated nodes) ≡ over value nodes
-over-rotated value nodes = ap total (map-rotated value nodes) ∙ total-rotated (map value nodes)
+use Rattle.neg_cycle.specs.Labels.{IsParentOf, IsWithin, IsLabelling, HoldsCycle, parent_arc, parent_arcs}
+use Rattle.bound_graph.proofs.Lists.{map-rotated}
+use Rattle.bound_graph.proofs.Cycles.{over, over-rotated}
+use Rattle.neg_cycle.proofs.Rotations.{map-reverse, rotated-reverse-rotated, distinct_rotated, distinct_reverse}
+use Rattle.neg_cycle.proofs.Totals.{total-reverse}
 
 -- the distance of a node, and its rank
 abbrev distance : List ℤ → ℕ → ℤ
@@ -29,27 +23,6 @@ distance distances node = get_or distances node (pos 0)
 
 abbrev rank : List ℕ → ℕ → ℤ
 rank ranks node = pos (get_or ranks node 0)
-
--- where each arc is kept, the heads are together no further than the tails and the costs
-kept_together : (arcs : List (Option Arc)) (distances : List ℤ) (numbers : List ℕ) (cycle : List Arc) → Obeys arcs distances → map (arc_at arcs) numbers ≡ map Some cycle → over (distance distances) (map (λ arc. arc.head) cycle) ≤ℤ (over (distance distances) (map (λ arc. arc.tail) cycle) +ℤ total (map (λ arc. arc.cost) cycle))
-kept_together arcs distances [] [] obeys there = omega (arith, ints)
-kept_together arcs distances [] (arc ∷ cycle) obeys there = absurd cc
-kept_together arcs distances (i ∷ numbers) [] obeys there = absurd cc
-kept_together arcs distances (i ∷ numbers) (arc ∷ cycle) obeys there =
-    let this : arc_at arcs i ≡ Some arc = cc in
-    let others : map (arc_at arcs) numbers ≡ map Some cycle = cc in
-    let kept : Keeps distances (Some arc) = subst (λ o. Keeps distances o) this (obeys i) in
-    let rest = kept_together arcs distances numbers cycle obeys others in
-    omega (arith, ints)
-
-pub none_obeys : (arcs : List (Option Arc)) (numbers : List ℕ) (distances : List ℤ) → IsNegativeCycle arcs numbers → Obeys arcs distances → ⊥
-none_obeys arcs numbers distances negative obeys =
-    let cycle = negative.cycle in
-    let tails = map (λ arc. arc.tail) cycle in
-    let together = kept_together arcs distances numbers cycle obeys negative.there in
-    let same : over (distance distances) (map (λ arc. arc.head) cycle) ≡ over (distance distances) tails = ap (over (distance distances)) negative.closed ∙ over-rotated (distance distances) tails in
-    let below = negative.negative in
-    omega (arith, ints)
 
 -- the arcs of the parents of nodes
 record Walk (arcs : List (Option Arc)) (distances : List ℤ) (ranks : List ℕ) (nodes : List ℕ) (steps : List Parent) : Type 0 where
@@ -115,7 +88,7 @@ walk arcs bound distances parents ranks (node ∷ nodes) (step ∷ steps) labels
     walk_on arcs distances ranks node nodes step steps (has_label arcs bound distances parents ranks node step labels this) (walk arcs bound distances parents ranks nodes steps labels others)
 
 -- the numbers of the arcs from the parents
-arcs_of_steps : (parents : List (Option Parent)) (nodes : List ℕ) (steps : List Parent) → map (parent_at parents) nodes ≡ map Some steps → map (λ node. arc_of (parent_at parents node)) nodes ≡ map (λ step. step.arc) steps
+arcs_of_steps : (parents : List (Option Parent)) (nodes : List ℕ) (steps : List Parent) → map (parent_at parents) nodes ≡ map Some steps → map (λ node. parent_arc (parent_at parents node)) nodes ≡ map (λ step. step.arc) steps
 arcs_of_steps parents [] [] are = refl
 arcs_of_steps parents [] (step ∷ steps) are = absurd cc
 arcs_of_steps parents (node ∷ nodes) [] are = absurd cc
@@ -136,11 +109,11 @@ negative_sum arcs distances ranks nodes steps way some closed =
     way.strict
 
 -- the arcs of a cycle of parents, against the order of its nodes
-pub negative_cycle : (arcs : List (Option Arc)) (bound : ℕ) (distances : List ℤ) (parents : List (Option Parent)) (ranks : List ℕ) (nodes : List ℕ) → IsLabelling arcs bound distances parents ranks → IsParentCycle parents nodes → IsNegativeCycle arcs (arcs_of parents nodes)
+pub negative_cycle : (arcs : List (Option Arc)) (bound : ℕ) (distances : List ℤ) (parents : List (Option Parent)) (ranks : List ℕ) (nodes : List ℕ) → IsLabelling arcs bound distances parents ranks → IsParentCycle parents nodes → IsNegativeCycle arcs (parent_arcs parents nodes)
 negative_cycle arcs bound distances parents ranks nodes labels round =
     let steps = round.steps in
     let way = walk arcs bound distances parents ranks nodes steps labels round.parents_of in
-    let arc_numbers : arcs_of parents nodes ≡ reverse (map (λ (s : Parent). s.arc) steps) = map-reverse (λ (node : ℕ). arc_of (parent_at parents node)) nodes ∙ ap (λ (l : List ℕ). reverse l) (arcs_of_steps parents nodes steps round.parents_of) in
+    let arc_numbers : parent_arcs parents nodes ≡ reverse (map (λ (s : Parent). s.arc) steps) = map-reverse (λ (node : ℕ). parent_arc (parent_at parents node)) nodes ∙ ap (λ (l : List ℕ). reverse l) (arcs_of_steps parents nodes steps round.parents_of) in
     let tails : map (λ (arc : Arc). arc.tail) (reverse way.walked) ≡ reverse (rotated nodes) = map-reverse (λ (arc : Arc). arc.tail) way.walked ∙ ap (λ (l : List ℕ). reverse l) (way.tails ∙ round.closed) in
     let heads : map (λ (arc : Arc). arc.head) (reverse way.walked) ≡ reverse nodes = map-reverse (λ (arc : Arc). arc.head) way.walked ∙ ap (λ (l : List ℕ). reverse l) way.heads in
     let costs : total (map (λ (arc : Arc). arc.cost) (reverse way.walked)) ≡ total (map (λ (arc : Arc). arc.cost) way.walked) = ap total (map-reverse (λ (arc : Arc). arc.cost) way.walked) ∙ total-reverse (map (λ (arc : Arc). arc.cost) way.walked) in

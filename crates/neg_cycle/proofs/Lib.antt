@@ -11,3 +11,4 @@ pub mod Rotations
 pub mod Sweeping
 pub mod Totals
 pub mod Writing
+pub mod Turning

@@ -6,7 +6,8 @@ use Rattle.std.proofs.lemmas.Bool.{cases_eq}
 use Rattle.bound_graph.specs.declared.arc.Arc.{Arc}
 use Rattle.bound_graph.specs.Arcs.{arc_at, IsArc}
 use Rattle.neg_cycle.specs.declared.forest.Parent.{Parent}
-use Rattle.neg_cycle.specs.Distances.{Keeps, AreAtMost}
+use Rattle.bound_graph.specs.Values.{RespectsIfThere}
+use Rattle.neg_cycle.specs.Distances.{AreAtMost}
 use Rattle.neg_cycle.specs.Forest.{parent_at}
 use Rattle.neg_cycle.specs.Labels.{IsParentOf, IsWithin, IsLabelling, Lowers, Fell}
 use Rattle.neg_cycle.specs.declared.labels.Labels.{Labels}
@@ -49,7 +50,7 @@ lowers_set arcs distances i arc sum there tail head is falls = record {
         (λ (e : node ≡ arc.head).
         let here = set_here distances arc.head node sum (pos 0) head e in
         let same : get_or other node (pos 0) ≡ get_or other arc.head (pos 0) = ap (λ n. get_or other n (pos 0)) e in
-        let kept : Keeps other (Some arc) = subst (λ o. Keeps other o) there (obeys i) in
+        let kept : RespectsIfThere other (Some arc) = subst (λ o. RespectsIfThere other o) there (obeys i) in
         let at_tail = low.each arc.tail tail in
         omega (arith, ints))
         (λ (ne : node ≢ arc.head).
@@ -189,7 +190,7 @@ pub record Tried (arcs : List (Option Arc)) (bound i : ℕ) (fell : Bool) (old n
   pub labels : IsLabelling arcs (bound + 1) new.distances.items new.parents.items new.ranks.items
   pub lowers : Lowers arcs old.distances.items new.distances.items
   pub falls : Fell fell old.distances.items new.distances.items
-  pub kept : fell ≡ false → Keeps new.distances.items (arc_at arcs i)
+  pub kept : fell ≡ false → RespectsIfThere new.distances.items (arc_at arcs i)
 
 pub tried : (arcs : List (Option Arc)) (bound i : ℕ) (arc : Arc) (fell : Bool) (old new : Labels) → IsLabelling arcs bound old.distances.items old.parents.items old.ranks.items → arc_at arcs i ≡ Some arc → IsArc (length old.distances.items) arc → IsTrue fell ↔ ((get_or old.distances.items arc.tail (pos 0) +ℤ arc.cost) <ℤ get_or old.distances.items arc.head (pos 0)) → (fell ≡ false → new ≡ old) → (fell ≡ true → new.distances.items ≡ set old.distances.items arc.head (get_or old.distances.items arc.tail (pos 0) +ℤ arc.cost)) → (fell ≡ true → new.parents.items ≡ set old.parents.items arc.head (Some (record { arc = i; tail = arc.tail }))) → (fell ≡ true → new.ranks.items ≡ set old.ranks.items arc.head bound) → Tried arcs bound i fell old new
 tried arcs bound i arc true old new labels there is_arc when same distances parents ranks =

@@ -4,10 +4,6 @@ use Rattle.std.specs.List.{AllByRecursion}
 use Rattle.std.proofs.lemmas.List.{map-append, reverse-append}
 use Rattle.words.specs.Lists.{Distinct, rotated}
 
-pub map-rotated : {A B : Type 0} (f : A → B) (xs : List A) → map f (rotated xs) ≡ rotated (map f xs)
-map-rotated f [] = refl
-map-rotated f (x ∷ xs) = map-append f xs (x ∷ [])
-
 pub reverse_cons : {A : Type 0} (x : A) (xs : List A) → reverse (x ∷ xs) ≡ reverse xs ++ x ∷ []
 reverse_cons x xs = reverse-append (x ∷ []) xs
 

@@ -3,7 +3,7 @@ use Rattle.std.proofs.Common.{◌≡◌, ◌⊎◌, ℕ, Bool, true, false, ◌|
 use Rattle.std.proofs.lemmas.Int.{ints}
 use Rattle.bound_graph.specs.declared.arc.Arc.{Arc}
 use Rattle.bound_graph.specs.Arcs.{arc_at}
-use Rattle.neg_cycle.specs.Distances.{Keeps}
+use Rattle.bound_graph.specs.Values.{RespectsIfThere}
 use Rattle.neg_cycle.specs.Labels.{Fell}
 
 -- whether anything fell in the arcs so far, or by one more
@@ -14,11 +14,11 @@ fell_more false true old middle new first second = rw (← first) second
 fell_more false false old middle new first second = second ∙ first
 
 -- where nothing fell, the arcs that were kept before still are, and the one that was tried is
-pub kept_more : (arcs : List (Option Arc)) (before here : Bool) (middle new : List ℤ) (i : ℕ) (seen more : ℕ → Type 0) → ((j : ℕ) → more j → seen j ⊎ (j ≡ i)) → Fell here middle new → (before ≡ false → (j : ℕ) → seen j → Keeps middle (arc_at arcs j)) → (here ≡ false → Keeps new (arc_at arcs i)) → before || here ≡ false → (j : ℕ) → more j → Keeps new (arc_at arcs j)
+pub kept_more : (arcs : List (Option Arc)) (before here : Bool) (middle new : List ℤ) (i : ℕ) (seen more : ℕ → Type 0) → ((j : ℕ) → more j → seen j ⊎ (j ≡ i)) → Fell here middle new → (before ≡ false → (j : ℕ) → seen j → RespectsIfThere middle (arc_at arcs j)) → (here ≡ false → RespectsIfThere new (arc_at arcs i)) → before || here ≡ false → (j : ℕ) → more j → RespectsIfThere new (arc_at arcs j)
 kept_more arcs true here middle new i seen more cases fell kept tried none j in_more = absurd (true≢false none)
 kept_more arcs false true middle new i seen more cases fell kept tried none j in_more = absurd (true≢false none)
 kept_more arcs false false middle new i seen more cases fell kept tried none j in_more =
     ⊎_elim
-    (λ (old : seen j). subst (λ distances. Keeps distances (arc_at arcs j)) (sym fell) (kept refl j old))
-    (λ (same : j ≡ i). subst (λ k. Keeps new (arc_at arcs k)) (sym same) (tried refl))
+    (λ (old : seen j). subst (λ distances. RespectsIfThere distances (arc_at arcs j)) (sym fell) (kept refl j old))
+    (λ (same : j ≡ i). subst (λ k. RespectsIfThere new (arc_at arcs k)) (sym same) (tried refl))
     (cases j in_more)

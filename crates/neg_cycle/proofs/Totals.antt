@@ -1,16 +1,9 @@
 -- Sums of lists of signed numbers.
 use Rattle.std.proofs.Common.{◌≡◌, ℕ, zero, suc, ◌*◌, ◌<◌, ℤ, pos, ◌+ℤ◌, ◌≤ℤ◌, ◌<ℤ◌, List, [], ◌∷◌, ◌++◌, length, get_or, set, reverse, refl, arith}
 use Rattle.std.proofs.lemmas.Int.{ints}
+use Rattle.bound_graph.proofs.Lists.{total-append}
 use Rattle.neg_cycle.proofs.Rotations.{reverse_cons}
 use Rattle.words.specs.Lists.{rotated, total}
-
-pub total-append : (xs ys : List ℤ) → total (xs ++ ys) ≡ total xs +ℤ total ys
-total-append [] ys = omega (arith, ints)
-total-append (x ∷ xs) ys = omega (arith, ints, total-append xs ys)
-
-pub total-rotated : (xs : List ℤ) → total (rotated xs) ≡ total xs
-total-rotated [] = refl
-total-rotated (x ∷ xs) = omega (arith, ints, total-append xs (x ∷ []))
 
 pub total-reverse : (xs : List ℤ) → total (reverse xs) ≡ total xs
 total-reverse [] = refl

@@ -1,4 +1,4 @@
--- Parents of nodes.
+-- For proofs: parents of nodes.
 use Rattle.std.specs.Prelude.{◌≡◌, ℕ, ◌<◌, ◌≤◌, List, length, map, Option, None, Some, get_or, All, IfSome}
 use Rattle.words.specs.Lists.{Distinct, rotated}
 use Rattle.neg_cycle.specs.declared.forest.Parent.{Parent}

@@ -1,4 +1,4 @@
--- Walks along the parents of nodes, and the ranks that they give.
+-- For proofs: walks along the parents of nodes, and the ranks that they give.
 use Rattle.std.specs.Prelude.{◌≡◌, ◌≢◌, ℕ, ◌+◌, ◌-◌, ◌<◌, ◌≤◌, ◌==◌, List, length, take, drop, Option, Some, get_or, count_by, IfSome}
 use Rattle.std.specs.Option.{option_map}
 use Rattle.neg_cycle.specs.declared.forest.Parent.{Parent}

@@ -1,10 +1,11 @@
--- Labels of nodes: a distance, a parent and a rank for each.
+-- For proofs: the labels of nodes, which are a distance, a parent and a rank for each.
 use Rattle.std.specs.Prelude.{◌≡◌, ℕ, ◌-◌, ◌*◌, ◌^◌, ◌<◌, ◌≤◌, Bool, true, false, ℤ, pos, ◌+ℤ◌, ◌≤ℤ◌, ◌<ℤ◌, ◌⊎◌, List, length, map, reverse, take, drop, Option, None, Some, get_or, All, MatchOption}
 use Rattle.words.specs.Lists.{total}
 use Rattle.bound_graph.specs.declared.arc.Arc.{Arc}
 use Rattle.bound_graph.specs.Arcs.{arc_at, IsArc}
-use Rattle.neg_cycle.specs.Distances.{Obeys, AreAtMost}
-use Rattle.neg_cycle.specs.Cycle.{IsNegativeCycle}
+use Rattle.bound_graph.specs.Values.{RespectsArcs}
+use Rattle.neg_cycle.specs.Distances.{AreAtMost}
+use Rattle.bound_graph.specs.Cycle.{IsNegativeCycle}
 use Rattle.neg_cycle.specs.Forest.{parent_at}
 use Rattle.neg_cycle.specs.declared.forest.Parent.{Parent}
 use Rattle.neg_cycle.specs.declared.labels.Labels.{Labels}
@@ -41,7 +42,7 @@ AreLabels arcs bound labels = IsLabelling arcs bound labels.distances.items labe
 -- The new distances are at most the old ones, and no list that obeys and is at most the old ones is anywhere above them.
 pub record Lowers (arcs : List (Option Arc)) (old new : List ℤ) : Type 0 where
   pub below : AreAtMost new old
-  pub keeps : (other : List ℤ) → AreAtMost other old → Obeys arcs other → AreAtMost other new
+  pub keeps : (other : List ℤ) → AreAtMost other old → RespectsArcs other arcs → AreAtMost other new
 
 -- what became of distances, by whether any was lowered
 abbrev pub Fell : Bool → List ℤ → List ℤ → Type 0
@@ -49,20 +50,20 @@ Fell false old new = new ≡ old
 Fell true old new = total new <ℤ total old
 
 -- the number of the arc that a node has from its parent, and 0 where it has none
-abbrev pub arc_of : Option Parent → ℕ
-arc_of None = 0
-arc_of (Some parent) = parent.arc
+abbrev pub parent_arc : Option Parent → ℕ
+parent_arc None = 0
+parent_arc (Some parent) = parent.arc
 
 -- the numbers of the arcs that nodes have from their parents, from the last node to the first
-abbrev pub arcs_of : List (Option Parent) → List ℕ → List ℕ
-arcs_of parents nodes = map (λ node. arc_of (parent_at parents node)) (reverse nodes)
+abbrev pub parent_arcs : List (Option Parent) → List ℕ → List ℕ
+parent_arcs parents nodes = map (λ node. parent_arc (parent_at parents node)) (reverse nodes)
 
 -- The nodes of the path from `start` up to `end` have parents, whose arcs are a cycle with a negative sum.
 pub record HoldsCycle (arcs : List (Option Arc)) (parents : List (Option Parent)) (path : List ℕ) (start end : ℕ) : Type 0 where
   pub ordered : start ≤ end
   pub within : end ≤ length path
   pub nodes : All (λ node. node < length parents) (take (end - start) (drop start path))
-  pub negative : IsNegativeCycle arcs (arcs_of parents (take (end - start) (drop start path)))
+  pub negative : IsNegativeCycle arcs (parent_arcs parents (take (end - start) (drop start path)))
 
 -- a room's lists have an entry for each node, and its cycle stands within the list for it
 pub record IsRoom (nodes parents ranks path list cycle_len : ℕ) : Type 0 where

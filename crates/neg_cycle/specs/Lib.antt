@@ -1,5 +1,5 @@
-pub mod Cycle
 pub mod Distances
 pub mod Forest
 pub mod ForestWalk
 pub mod Labels
+pub mod Turned

@@ -1,7 +1,7 @@
 //! Cycles of arcs, from cycles of parents.
 ghost use Rattle.std.specs.Prelude.{◌≡◌, ◌<◌, ◌≤◌, ◌^◌, length, take, All};
 ghost use Rattle.neg_cycle.specs.Forest.{parent_at};
-ghost use Rattle.neg_cycle.specs.Labels.{arc_of, arcs_of};
+ghost use Rattle.neg_cycle.specs.Labels.{parent_arc, parent_arcs};
 
 use crate::forest::Parent;
 
@@ -12,7 +12,7 @@ pub(crate) fn write_cycle(parents: &[Option<Parent>], nodes: &[u32], cycle: &mut
     requires nodes { All (λ node. node < length parents.now) nodes.now }
     requires room { length nodes.now ≤ length cycle.old.items }
     ensures count { result ≡ length nodes.now }
-    ensures arcs { take result cycle.new.items ≡ arcs_of parents.now nodes.now }
+    ensures arcs { take result cycle.new.items ≡ parent_arcs parents.now nodes.now }
     ensures room { length cycle.new.items ≡ length cycle.old.items }
 {
     for place in 0..nodes.len() {
@@ -24,7 +24,7 @@ pub(crate) fn write_cycle(parents: &[Option<Parent>], nodes: &[u32], cycle: &mut
 /// The number of the arc from a node's parent.
 fn arc_into(parents: &[Option<Parent>], node: u32) -> u32
     requires { node < length parents.now }
-    ensures { result ≡ arc_of (parent_at parents.now node) }
+    ensures { result ≡ parent_arc (parent_at parents.now node) }
 {
     match parents[node as usize] {
         Some(parent) => parent.arc,

@@ -1,7 +1,7 @@
 //! Labels of nodes, and what an arc changes of them.
 ghost use Rattle.std.specs.Prelude.{◌≡◌, ◌<◌, ◌*◌, ◌^◌, ◌+◌, ℤ, pos, true, false, ◌≤ℤ◌, ◌+ℤ◌, ◌<ℤ◌, ◌↔◌, length, replicate, IsTrue, None, Some, get_or, slice_set};
 ghost use Rattle.bound_graph.specs.Arcs.{IsArc, arc_at};
-ghost use Rattle.neg_cycle.specs.Distances.{Keeps};
+ghost use Rattle.bound_graph.specs.Values.{RespectsIfThere};
 ghost use Rattle.neg_cycle.specs.Labels.{AreLabels, Fell, IsWithin, Lowers};
 
 use crate::forest::Parent;
@@ -35,7 +35,7 @@ pub(crate) fn relax<A: ArcList>(arcs: &A, i: u32, rank: u64, labels: &mut Labels
     ensures labels { AreLabels (A.listed arcs.now) (rank + 1) labels.new }
     ensures lowers { Lowers (A.listed arcs.now) labels.old.distances.items labels.new.distances.items }
     ensures fell { Fell result labels.old.distances.items labels.new.distances.items }
-    ensures kept { result ≡ false → Keeps labels.new.distances.items (arc_at (A.listed arcs.now) i) }
+    ensures kept { result ≡ false → RespectsIfThere labels.new.distances.items (arc_at (A.listed arcs.now) i) }
 {
     match arcs.arc(i) {
         Some(arc) => lower_head(i, arc, rank, labels),

@@ -1,4 +1,4 @@
-//! The greatest distances that obey the arcs of a graph, or a cycle of arcs with a negative sum.
+//! The greatest distances that respect the arcs of a graph, or a cycle of arcs with a negative sum.
 //!
 //! The method is that of Bellman and Ford, with sweeps over the arcs in alternating direction and with the
 //! cycles found early, by a walk of the parents after every second sweep (parent-graph search for negative cycles,
@@ -10,8 +10,11 @@ mod forest;
 mod labels;
 mod room;
 mod sweep;
+mod turned;
+
 #[cfg(test)]
 mod tests;
 
 pub use room::Room;
-pub use sweep::{Settled, no_list_obeys, settle};
+pub use sweep::{Settled, settle};
+pub use turned::{Turned, least_by_turning, turned_is_negated};

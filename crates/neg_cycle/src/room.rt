@@ -57,6 +57,15 @@ impl Room {
         self.labels.distances[node as usize] = i128::from(value);
     }
 
+    /// Lets every node start at this distance.
+    pub fn start_all(&mut self, value: i64)
+        requires { unsigned_abs value ≤ 4 * 10 ^ 15 }
+        ensures distances { self.new.distances ≡ replicate (length self.old.distances) value }
+        ensures cycle { self.new.cycle ≡ self.old.cycle }
+    {
+        self.labels.distances.fill(i128::from(value));
+    }
+
     /// The distance of a node.
     pub fn distance(&self, node: u32) -> i128
         requires { node < length self.now.distances }

@@ -5,7 +5,7 @@ ghost use Rattle.bound_graph.specs.Arcs.{IsArc};
 mod large;
 
 use crate::forest::{Parent, rank_or_cycle};
-use crate::{Room, Settled, no_list_obeys, settle};
+use crate::{Room, Settled, Turned, least_by_turning, settle, turned_is_negated};
 use bound_graph::{Arc, ArcList};
 use std::alloc::{AllocError, Global};
 use std::test::Fail;
@@ -122,7 +122,6 @@ fn a_cycle_with_a_negative_sum_is_found(rt: HostRuntime) -> Result<(), Fail> {
         (cycle.len(), cycle.contains(&0), cycle.contains(&1)),
         (2, true, true)
     );
-    no_list_obeys();
     Ok(())
 }
 

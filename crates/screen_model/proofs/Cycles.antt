@@ -1,13 +1,14 @@
 -- Around a cycle the rises of a series add up to 0.
-use Rattle.std.proofs.Common.{◌≡◌, ℤ, ◌+ℤ◌, ◌-ℤ◌, ◌≤ℤ◌, List, [], ◌∷◌, ◌++◌, map, refl, ap, ◌∙◌, arith}
+use Rattle.std.proofs.Common.{◌≡◌, ℤ, ◌-ℤ◌, ◌≤ℤ◌, List, [], ◌∷◌, map, refl, ap, ◌∙◌, arith}
 use Rattle.std.specs.Prelude.{Contains}
 use Rattle.std.specs.List.{AllByRecursion}
 use Rattle.std.proofs.lemmas.Int.{ints}
-use Rattle.std.proofs.lemmas.List.Elements.{All-from_recursion, All-contains}
 use Rattle.screen_model.specs.declared.place.Place.{Place}
 use Rattle.screen_model.specs.declared.place.End.{End}
 use Rattle.screen_model.specs.Series.{value_at}
 use Rattle.words.specs.Lists.{rotated, total}
+use Rattle.words.proofs.Lists.{map-rotated, all_at}
+use Rattle.words.proofs.Sums.{total-rotated}
 use Rattle.screen_model.specs.Obeys.{Priced, rise, Keeps, Obeys}
 use Rattle.screen_model.specs.Best.{BlockedForbids}
 
@@ -15,13 +16,8 @@ use Rattle.screen_model.specs.Best.{BlockedForbids}
 abbrev summed : (End → ℤ) → List End → ℤ
 summed value ends = total (map value ends)
 
-last : (value : End → ℤ) (ends : List End) (end : End) → summed value (ends ++ end ∷ []) ≡ summed value ends +ℤ value end
-last value [] end = omega (arith, ints)
-last value (first ∷ ends) end = omega (arith, ints, last value ends end)
-
 turned : (value : End → ℤ) (ends : List End) → summed value (rotated ends) ≡ summed value ends
-turned value [] = refl
-turned value (first ∷ ends) = omega (arith, ints, last value ends first)
+turned value ends = ap total (map-rotated value ends) ∙ total-rotated (map value ends)
 
 abbrev risen : List Place → List ℤ → List Priced → ℤ
 risen places series cycle = total (map (λ priced. rise places series priced.bound) cycle)
@@ -34,7 +30,7 @@ below_limits : (places : List Place) (series : List ℤ) (bounds cycle : List Pr
 below_limits places series bounds [] obeys members unpriced = omega (arith, ints)
 below_limits places series bounds (priced ∷ cycle) obeys members unpriced =
     let IsKept = λ (priced : Priced). priced.price ≡ 0 → Keeps places series priced.bound in
-    let kept = All-contains IsKept bounds priced (All-from_recursion IsKept bounds obeys) members.0 unpriced.0 in
+    let kept = all_at IsKept bounds priced obeys members.0 unpriced.0 in
     omega (arith, ints, kept, below_limits places series bounds cycle obeys members.1 unpriced.1)
 
 pub forbids : BlockedForbids

@@ -1,5 +1,5 @@
 -- Worked examples of series, flows and blocked cycles. All readings stand in column 2, one second apart, from row 1 on.
-use Rattle.std.proofs.Common.{◌≡◌, ℕ, ◌^◌, ◌≤◌, ℤ, pos, neg_ℤ, ◌≤ℤ◌, List, [], ◌∷◌, ◌++◌, refl, arith, rules}
+use Rattle.std.proofs.Common.{◌≡◌, ℕ, ◌^◌, ℤ, pos, neg_ℤ, ◌≤ℤ◌, List, [], ◌∷◌, ◌++◌, map, replicate, refl, arith, rules}
 use Rattle.std.proofs.lemmas.Int.{ints}
 use Rattle.screen_model.specs.declared.place.Place.{Place}
 use Rattle.screen_model.specs.declared.place.End.{End}
@@ -7,9 +7,13 @@ use Rattle.screen_model.specs.declared.place.End.TheVariants.{Zero, At}
 use Rattle.screen_model.specs.declared.bound.Side.{Side}
 use Rattle.screen_model.specs.declared.bound.Side.TheVariants.{Up, Down}
 use Rattle.screen_model.specs.declared.bound.BoundName.{BoundName}
-use Rattle.screen_model.specs.Obeys.{Priced, Obeys}
+use Rattle.screen_model.specs.declared.bound.FlowItem.{FlowItem}
+use Rattle.words.specs.Lists.{IsPart, kept, left_out, none, total}
+use Rattle.screen_model.specs.Obeys.{Priced, Obeys, with_prices}
 use Rattle.screen_model.specs.Cost.{Problem, change, paid, cost}
-use Rattle.screen_model.specs.Flow.{Stream, IsAdmissible, pull, dual_value}
+use Rattle.screen_model.specs.Flow.{IsAdmissible, pull, dual_value}
+use Rattle.screen_model.specs.Names.{IsFlowOver, amounts_of, items_of, bounds_named}
+use Rattle.screen_model.specs.Parts.{IsSpread, no_bounds, same_amount, no_amount}
 use Rattle.screen_model.specs.Best.{IsBest, IsBlocked}
 
 -- the place of the reading in a row
@@ -65,9 +69,26 @@ spike = record {
 abbrev flattened : List ℤ
 flattened = pos 10 ∷ pos 11 ∷ pos 12 ∷ pos 13 ∷ []
 
--- 1 on the limit of the rise from row 2 to row 3
-abbrev spike_flow : List Stream
-spike_flow = record { on = rise_within 0 (pos 1) 2 3; amount = 1 } ∷ []
+-- 1 on the limit of the rise from row 2 to row 3, which is the fifteenth of the twenty bounds
+abbrev spike_flow : List ℤ
+spike_flow = replicate 14 (pos 0) ++ pos 1 ∷ replicate 5 (pos 0)
+
+-- the same flow by the name of its bound
+abbrev spike_items : List FlowItem
+spike_items = record { name = named 1 2 3 Up; amount = pos 1 } ∷ []
+
+spike_items-tell : amounts_of spike_items spike.bounds ≡ spike_flow
+spike_items-tell = refl
+
+spike_flow-items : items_of spike.bounds spike_flow ≡ spike_items
+spike_flow-items = refl
+
+spike_items-over : IsFlowOver spike.bounds spike_items
+spike_items-over = record {
+  named = ((14, omega arith, refl), tt);
+  distinct = (tt, tt);
+  some = (omega (arith, ints), tt);
+}
 
 flattened-change : change spike flattened ≡ 8
 flattened-change = refl
@@ -75,22 +96,17 @@ flattened-change = refl
 flattened-obeys : Obeys spike.places flattened spike.bounds
 flattened-obeys = search rules
 
-spike_flow-leaves : pull spike_flow (reading 2) ≡ pos 1
+spike_flow-leaves : pull spike.bounds spike_flow (reading 2) ≡ pos 1
 spike_flow-leaves = refl
 
-spike_flow-enters : pull spike_flow (reading 3) ≡ neg_ℤ (pos 1)
+spike_flow-enters : pull spike.bounds spike_flow (reading 3) ≡ neg_ℤ (pos 1)
 spike_flow-enters = refl
 
 spike_flow-worth : dual_value spike spike_flow ≡ pos 8
 spike_flow-worth = refl
 
 spike_flow-admissible : IsAdmissible spike spike_flow
-spike_flow-admissible = record {
-  members = ((14, omega arith, refl), tt);
-  some = (omega arith, tt);
-  pulls = search rules;
-  prices = search rules;
-}
+spike_flow-admissible = record { amounts = search rules; pulls = search rules }
 
 flattened-best : IsBest spike flattened spike_flow
 flattened-best = record {
@@ -98,6 +114,16 @@ flattened-best = record {
   whole = refl;
   obeys = flattened-obeys;
   admissible = spike_flow-admissible;
+  equal = refl;
+}
+
+-- 1 on the limit of the rise from row 1 to row 3 shows it as well
+flattened-best_too : IsBest spike flattened (amounts_of (record { name = named 1 1 3 Up; amount = pos 1 } ∷ []) spike.bounds)
+flattened-best_too = record {
+  sound = record { distinct = search rules; valued = refl; weighted = refl };
+  whole = refl;
+  obeys = flattened-obeys;
+  admissible = record { amounts = search rules; pulls = search rules };
   equal = refl;
 }
 
@@ -111,8 +137,8 @@ jump = record {
 }
 
 -- 1 on the limit of the rise, as much as its price
-abbrev jump_flow : List Stream
-jump_flow = record { on = rise_within 1 (pos 1) 1 2; amount = 1 } ∷ []
+abbrev jump_flow : List ℤ
+jump_flow = pos 0 ∷ pos 0 ∷ pos 0 ∷ pos 0 ∷ pos 1 ∷ pos 0 ∷ []
 
 -- a limit with a price may be broken
 jump-obeys : Obeys jump.places jump.values jump.bounds
@@ -131,12 +157,7 @@ jump_flow-worth : dual_value jump jump_flow ≡ pos 99
 jump_flow-worth = refl
 
 jump_flow-admissible : IsAdmissible jump jump_flow
-jump_flow-admissible = record {
-  members = ((4, omega arith, refl), tt);
-  some = (omega arith, tt);
-  pulls = search rules;
-  prices = search rules;
-}
+jump_flow-admissible = record { amounts = search rules; pulls = search rules }
 
 jump-best : IsBest jump jump.values jump_flow
 jump-best = record {
@@ -148,12 +169,48 @@ jump-best = record {
 }
 
 -- 2 is more than the price
-jump_flow-too_great : IsAdmissible jump (record { on = rise_within 1 (pos 1) 1 2; amount = 2 } ∷ []) → ⊥
-jump_flow-too_great admissible = let at_price : 2 ≤ 1 = admissible.prices.1.1.1.1.0 (omega arith) in omega arith
+jump_flow-too_great : IsAdmissible jump (pos 0 ∷ pos 0 ∷ pos 0 ∷ pos 0 ∷ pos 2 ∷ pos 0 ∷ []) → ⊥
+jump_flow-too_great admissible =
+    let at_price : pos 2 ≤ℤ pos 1 = admissible.amounts.1.1.1.1.0.1 (omega arith) in
+    omega (arith, ints)
+
+-- no flow is admissible where a reading has no weight
+jump_flow-no_weight : IsAdmissible (record jump { weights = 1 ∷ [] }) jump_flow → ⊥
+jump_flow-no_weight admissible = admissible.pulls.1
+
+-- the flow of the two limits of the change alone, spread over all bounds
+jump_flow-spread : IsSpread (speed 1 1 1 2) (pos 1 ∷ pos 0 ∷ []) jump.bounds jump_flow
+jump_flow-spread = no_amount (no_amount (no_amount (no_amount (same_amount (same_amount no_bounds)))))
+
+jump-part : IsPart (speed 1 1 1 2) jump.bounds
+jump-part = left_out (left_out (left_out (left_out (kept (kept none)))))
 
 -- a limit without a price may not be broken
 jump-breaks : Obeys jump.places jump.values (speed 0 1 1 2) → ⊥
 jump-breaks obeys = let rise : pos 100 ≤ℤ pos 1 = obeys.0 refl in omega (arith, ints)
+
+-- The same two readings, each of weight 2, and two bounds of one name: a rise of at most 1 and one of at most 2, both at
+-- a price of 1.
+abbrev twins : Problem
+twins = record {
+  places = reading 1 ∷ reading 2 ∷ [];
+  values = pos 0 ∷ pos 100 ∷ [];
+  weights = 2 ∷ 2 ∷ [];
+  bounds = with_prices ((rise_within 0 (pos 1) 1 2).bound ∷ (rise_within 0 (pos 2) 1 2).bound ∷ []) (1 ∷ 1 ∷ []);
+}
+
+-- what is paid is counted for each, and so is what flows: 1 on each of them is no more than its price
+twins-best : IsBest twins twins.values (pos 1 ∷ pos 1 ∷ [])
+twins-best = record {
+  sound = record { distinct = search rules; valued = refl; weighted = refl };
+  whole = refl;
+  obeys = search rules;
+  admissible = record { amounts = search rules; pulls = search rules };
+  equal = refl;
+}
+
+twins-cost : cost twins twins.values ≡ 197
+twins-cost = refl
 
 -- the reading in a row keeps the value that was read
 abbrev trusted : ℤ → ℕ → List Priced
@@ -163,11 +220,20 @@ trusted value row = at_most 2 value row ∷ at_least 2 value row ∷ []
 abbrev trusted_jump : List Priced
 trusted_jump = range_of 1 ++ range_of 2 ++ trusted (pos 0) 1 ++ trusted (pos 100) 2 ++ speed 0 1 1 2
 
--- from reading 1 up to reading 2, down to Zero, and up to reading 1 again
-trusted_jump-blocked : IsBlocked trusted_jump (rise_within 0 (pos 1) 1 2 ∷ at_least 2 (pos 100) 2 ∷ at_most 2 (pos 0) 1 ∷ [])
-trusted_jump-blocked = record {
+-- from Zero up to reading 1, up to reading 2, and down to Zero again
+abbrev steps : List BoundName
+steps = named 2 1 1 Up ∷ named 1 1 2 Up ∷ named 2 2 2 Down ∷ []
+
+steps-bounds : bounds_named steps trusted_jump ≡ at_most 2 (pos 0) 1 ∷ rise_within 0 (pos 1) 1 2 ∷ at_least 2 (pos 100) 2 ∷ []
+steps-bounds = refl
+
+steps-sum : total (map (λ priced. priced.bound.limit) (bounds_named steps trusted_jump)) ≡ neg_ℤ (pos 99)
+steps-sum = refl
+
+steps-blocked : IsBlocked trusted_jump (bounds_named steps trusted_jump)
+steps-blocked = record {
   some = omega arith;
-  members = ((8, omega arith, refl), ((7, omega arith, refl), ((4, omega arith, refl), tt)));
+  members = ((4, omega arith, refl), ((8, omega arith, refl), ((7, omega arith, refl), tt)));
   unpriced = (refl, (refl, (refl, tt)));
   closed = refl;
   simple = search rules;

@@ -2,5 +2,8 @@ pub mod Cycles
 pub mod Duality
 pub mod Examples
 pub mod Gains
-pub mod Products
+pub mod Items
+pub mod Names
+pub mod Places
 pub mod Pulls
+pub mod Spreads

@@ -1,15 +1,15 @@
--- When a flow shows that a series costs least, and when a cycle of bounds shows that no series obeys.
+-- To be believed: when a flow shows that a series costs least, and when a cycle of bounds shows that no series obeys.
 use Rattle.std.specs.Prelude.{◌≡◌, ◌≤◌, ℤ, pos, negsuc, ◌≤ℤ◌, List, length, map, Contains}
 use Rattle.std.specs.List.{AllByRecursion}
 use Rattle.screen_model.specs.declared.place.Place.{Place}
 use Rattle.words.specs.Lists.{Distinct, rotated, total}
 use Rattle.screen_model.specs.Obeys.{Priced, Obeys}
 use Rattle.screen_model.specs.Cost.{Problem, IsProblem, IsSeries, cost}
-use Rattle.screen_model.specs.Flow.{Stream, IsAdmissible, dual_value}
+use Rattle.screen_model.specs.Flow.{IsAdmissible, dual_value}
 
 -- In a problem that is one, the series has a value for each reading and obeys, and an admissible flow has a dual
 -- value as great as what the series costs.
-pub record IsBest (problem : Problem) (series : List ℤ) (flow : List Stream) : Type 0 where
+pub record IsBest (problem : Problem) (series : List ℤ) (flow : List ℤ) : Type 0 where
   pub sound : IsProblem problem
   pub whole : IsSeries problem series
   pub obeys : Obeys problem.places series problem.bounds
@@ -28,12 +28,12 @@ pub record IsBlocked (bounds cycle : List Priced) : Type 0 where
 
 -- Weak duality: a series that obeys costs at least the dual value of every admissible flow.
 abbrev pub WeakDuality : Type 0
-WeakDuality = (problem : Problem) (series : List ℤ) (flow : List Stream) → IsProblem problem → IsSeries problem series
+WeakDuality = (problem : Problem) (series : List ℤ) (flow : List ℤ) → IsProblem problem → IsSeries problem series
     → Obeys problem.places series problem.bounds → IsAdmissible problem flow → dual_value problem flow ≤ℤ pos (cost problem series)
 
 -- So no series that obeys costs less than a best one.
 abbrev pub BestCostsLeast : Type 0
-BestCostsLeast = (problem : Problem) (series other : List ℤ) (flow : List Stream) → IsSeries problem other
+BestCostsLeast = (problem : Problem) (series other : List ℤ) (flow : List ℤ) → IsSeries problem other
     → IsBest problem series flow → Obeys problem.places other problem.bounds → cost problem series ≤ cost problem other
 
 -- A blocked cycle forbids every series.

@@ -1,4 +1,4 @@
--- What a series costs: its change, and what it pays for the bounds that it breaks.
+-- To be believed: what a series costs, its change, and what it pays for the bounds that it breaks.
 use Rattle.std.specs.Prelude.{◌≡◌, ℕ, ◌+◌, ◌*◌, ℤ, pos, negsuc, ◌-ℤ◌, List, [], ◌∷◌, length, map, sum, unsigned_abs}
 use Rattle.screen_model.specs.declared.place.Place.{Place}
 use Rattle.words.specs.Lists.{Distinct}

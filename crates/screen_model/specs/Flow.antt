@@ -1,69 +1,43 @@
--- Flows on bounds: the dual of the least cost.
-use Rattle.std.specs.Prelude.{ℕ, ◌<◌, ◌≤◌, ℤ, pos, neg_ℤ, ◌+ℤ◌, ◌-ℤ◌, ◌*ℤ◌, Bool, true, false, ◌&&◌, ◌==◌, if◌then◌else◌, List, [], ◌∷◌, map, filter, sum, unsigned_abs, Contains}
-use Rattle.std.specs.List.{AllByRecursion}
+-- To be believed: flows on bounds, the dual of the least cost. A flow over a list of bounds is a list of amounts, one for
+-- each bound, at the bound's place: so much flows on it from its first end to its second, 0 where nothing does.
+use Rattle.std.specs.Prelude.{◌<◌, ◌≤◌, ℤ, pos, neg_ℤ, ◌-ℤ◌, ◌≤ℤ◌, if◌then◌else◌, List, map, unsigned_abs}
+use Rattle.std.specs.List.{AllZip}
 use Rattle.screen_model.specs.declared.place.Place.{Place}
 use Rattle.screen_model.specs.declared.place.End.{End}
 use Rattle.screen_model.specs.declared.place.End.TheVariants.{Zero, At}
-use Rattle.screen_model.specs.declared.bound.BoundName.{BoundName}
-use Rattle.screen_model.specs.declared.bound.Side.{Side}
-use Rattle.screen_model.specs.declared.bound.Side.TheVariants.{Up, Down}
+use Rattle.screen_model.specs.declared.bound.Bound.{Bound}
+use Rattle.words.specs.Lists.{inner_product}
 use Rattle.screen_model.specs.Series.{is_same_place}
-use Rattle.words.specs.Lists.{total}
 use Rattle.screen_model.specs.Obeys.{Priced}
 use Rattle.screen_model.specs.Cost.{Problem}
 
--- an amount that flows on a bound, from its first end to its second
-pub record Stream : Type 0 where
-  pub on : Priced
-  pub amount : ℕ
+-- 1 where the end is the reading at the place, and else 0
+abbrev pub one_at : Place → End → ℤ
+one_at p Zero = pos 0
+one_at p (At q) = if is_same_place p q then pos 1 else pos 0
 
-abbrev pub is_at : Place → End → Bool
-is_at p Zero = false
-is_at p (At q) = is_same_place p q
-
-abbrev pub amount_at : Place → End → ℕ → ℤ
-amount_at p end amount = if is_at p end then pos amount else pos 0
+-- How an amount of 1 on a bound pulls at a reading: by 1 where the bound begins there, and by -1 where it ends there.
+abbrev pub unit_pull : Place → Bound → ℤ
+unit_pull p bound = one_at p bound.first -ℤ one_at p bound.second
 
 -- How a flow pulls at a reading: what leaves it, on bounds that begin there, less what enters it, on bounds that
 -- end there.
-abbrev pub pull : List Stream → Place → ℤ
-pull flow p = total (map (λ stream. amount_at p stream.on.bound.first stream.amount -ℤ amount_at p stream.on.bound.second stream.amount) flow)
+abbrev pub pull : List Priced → List ℤ → Place → ℤ
+pull bounds flow p = inner_product flow (map (λ priced. unit_pull p priced.bound) bounds)
 
-abbrev pub is_same_side : Side → Side → Bool
-is_same_side Up Up = true
-is_same_side Down Down = true
-is_same_side Up Down = false
-is_same_side Down Up = false
+-- An amount is not below 0, and on a bound that has a price it is at most the price.
+abbrev pub CanCarry : Priced → ℤ → Type 0
+CanCarry priced amount = (pos 0 ≤ℤ amount) × (0 < priced.price → amount ≤ℤ pos priced.price)
 
-abbrev pub is_same_name : BoundName → BoundName → Bool
-is_same_name m n = (m.rule == n.rule) && ((m.from_row == n.from_row) && ((m.to_row == n.to_row) && ((m.col == n.col) && is_same_side m.side n.side)))
-
--- all that flows on the bounds of a name
-abbrev pub amount_on : List Stream → BoundName → ℕ
-amount_on flow name = sum (map (λ stream. stream.amount) (filter (λ stream. is_same_name name stream.on.bound.name) flow))
-
--- each reading is pulled by at most its weight
-abbrev pub PullsWithin : List Stream → List Place → List ℕ → Type 0
-PullsWithin flow (p ∷ places) (weight ∷ weights) = (unsigned_abs (pull flow p) ≤ weight) × PullsWithin flow places weights
-PullsWithin flow [] weights = Unit {0}
-PullsWithin flow (p ∷ places) [] = Unit {0}
-
--- Amounts of at least 1 on bounds of the problem; no reading is pulled by more than its weight, and no bound
--- that has a price carries more than its price.
-pub record IsAdmissible (problem : Problem) (flow : List Stream) : Type 0 where
-  pub members : AllByRecursion (λ stream. Contains problem.bounds stream.on) flow
-  pub some : AllByRecursion (λ stream. 1 ≤ stream.amount) flow
-  pub pulls : PullsWithin flow problem.places problem.weights
-  pub prices : AllByRecursion (λ priced. 0 < priced.price → amount_on flow priced.bound.name ≤ priced.price) problem.bounds
-
--- the sum of pull times value, over all readings
-abbrev pub pulled : List Stream → List Place → List ℤ → ℤ
-pulled flow (p ∷ places) (value ∷ values) = (pull flow p *ℤ value) +ℤ pulled flow places values
-pulled flow [] values = pos 0
-pulled flow (p ∷ places) [] = pos 0
+-- There is an amount for each bound, one that the bound can carry, and a weight for each reading, and each reading
+-- is pulled by at most its weight.
+pub record IsAdmissible (problem : Problem) (flow : List ℤ) : Type 0 where
+  pub amounts : AllZip CanCarry problem.bounds flow
+  pub pulls : AllZip (λ p weight. unsigned_abs (pull problem.bounds flow p) ≤ weight) problem.places problem.weights
 
 -- What a flow is worth as a bound on costs: each amount counts against the limit that it flows on, and each pull
 -- against the value that was read.
-abbrev pub dual_value : Problem → List Stream → ℤ
+abbrev pub dual_value : Problem → List ℤ → ℤ
 dual_value problem flow =
-    neg_ℤ (total (map (λ stream. pos stream.amount *ℤ stream.on.bound.limit) flow)) -ℤ pulled flow problem.places problem.values
+    neg_ℤ (inner_product flow (map (λ priced. priced.bound.limit) problem.bounds))
+    -ℤ inner_product problem.values (map (pull problem.bounds flow) problem.places)

@@ -1,5 +1,7 @@
 pub mod Best
 pub mod Cost
 pub mod Flow
+pub mod Names
 pub mod Obeys
+pub mod Parts
 pub mod Series

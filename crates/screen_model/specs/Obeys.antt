@@ -1,5 +1,5 @@
--- What it means that a series obeys bounds.
-use Rattle.std.specs.Prelude.{◌≡◌, ℕ, ℤ, ◌-ℤ◌, ◌≤ℤ◌, List, map}
+-- To be believed: what it means that a series obeys bounds.
+use Rattle.std.specs.Prelude.{◌≡◌, ℕ, ℤ, ◌-ℤ◌, ◌≤ℤ◌, List, [], ◌∷◌, map}
 use Rattle.std.specs.List.{AllByRecursion}
 use Rattle.screen_model.specs.declared.place.Place.{Place}
 use Rattle.screen_model.specs.declared.bound.Bound.{Bound}
@@ -9,6 +9,12 @@ use Rattle.screen_model.specs.Series.{value_at, IsEnd}
 pub record Priced : Type 0 where
   pub bound : Bound
   pub price : ℕ
+
+-- the bounds, each with the price that stands beside it; where none stands there is none
+abbrev pub with_prices : List Bound → List ℕ → List Priced
+with_prices (bound ∷ bounds) (price ∷ prices) = record { bound = bound; price = price } ∷ with_prices bounds prices
+with_prices (bound ∷ bounds) [] = record { bound = bound; price = 0 } ∷ with_prices bounds []
+with_prices [] prices = []
 
 -- bounds that all have no price
 abbrev pub without_prices : List Bound → List Priced

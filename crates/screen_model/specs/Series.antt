@@ -1,4 +1,4 @@
--- A series: a whole number of units for each reading, in the order of the readings' places.
+-- To be believed: a series, a whole number of units for each reading, in the order of the readings' places.
 use Rattle.std.specs.Prelude.{ℤ, pos, List, [], ◌∷◌, Bool, ◌&&◌, ◌==◌, if◌then◌else◌, Contains}
 use Rattle.screen_model.specs.declared.place.Place.{Place}
 use Rattle.screen_model.specs.declared.place.End.{End}

@@ -13,7 +13,10 @@ mod place;
 mod tests;
 
 pub use bound::{Bound, BoundName, FlowItem, Side};
-pub use laws::{best_costs_least, blocked_forbids, weak_duality};
+pub use laws::{
+    best_costs_least, blocked_forbids, items_count, items_spread, items_tell_flows, names_stay,
+    part_cycles_block, part_flows_count, weak_duality,
+};
 pub use place::{End, Place};
 use sequence::Sequence;
 

@@ -1,6 +1,7 @@
 use crate::{
     Bound, BoundList, BoundName, End, FlowItem, FlowList, NameList, Place, Places, Series, Side,
-    best_costs_least, blocked_forbids, weak_duality,
+    best_costs_least, blocked_forbids, items_count, items_spread, items_tell_flows, names_stay,
+    part_cycles_block, part_flows_count, weak_duality,
 };
 use sequence::Sequence;
 use std::test::Fail;
@@ -11,10 +12,7 @@ fn lists_and_laws(rt: HostRuntime) -> Result<(), Fail> {
     for row in 1..5u32 {
         places.push(Place { row, col: 2 })?;
     }
-    let mut series: Series = Sequence::new(rt.alloc());
-    for value in [10, 11, 12, 13i64] {
-        series.push(value)?;
-    }
+    let series: Series = Sequence::from_slice(rt.alloc(), &[10, 11, 12, 13i64])?;
     let name = BoundName {
         rule: 1,
         from_row: 2,
@@ -42,5 +40,11 @@ fn lists_and_laws(rt: HostRuntime) -> Result<(), Fail> {
     weak_duality();
     best_costs_least();
     blocked_forbids();
+    part_flows_count();
+    part_cycles_block();
+    items_tell_flows();
+    items_count();
+    items_spread();
+    names_stay();
     Ok(())
 }

@@ -1,7 +1,7 @@
 //! A growing list whose contracts see its elements alone, and not where they lie in memory.
 #![tactic(auto)]
 
-ghost use Rattle.std.specs.Prelude.{◌≡◌, [], ◌∷◌, ◌++◌, length, slice_get, slice_set, option_copied, OnOk, OnErr, ◌==◌, ◌<◌};
+ghost use Rattle.std.specs.Prelude.{◌≡◌, [], ◌∷◌, ◌++◌, length, slice_get, slice_set, option_copied, IfOk, OnOk, OnErr, ◌==◌, ◌<◌};
 
 use std::alloc::{AllocError, Global};
 use std::marker::Model;
@@ -30,6 +30,22 @@ impl<T: Drop> Sequence<T> {
         Sequence {
             elements: Vec::new(alloc),
         }
+    }
+
+    /// The empty list with room for `room` elements, all taken at once; more of them take further memory.
+    pub fn with_capacity(alloc: Global, room: usize) -> Result<Self, AllocError>
+        ensures { IfOk result (λ list. list ≡ []) }
+    {
+        Ok(Sequence {
+            elements: Vec::with_capacity(alloc, room)?,
+        })
+    }
+
+    /// The list of a vector's elements. Takes no memory.
+    pub fn from_vec(elements: Vec<T>) -> Self
+        ensures { result ≡ elements.items }
+    {
+        Sequence { elements }
     }
 
     /// Adds an element at the end. Where memory runs out the list is as it was.
@@ -85,6 +101,25 @@ impl<T: Drop> Sequence<T> {
     }
 }
 
+impl<T: Copy> Sequence<T> {
+    /// A copy of the elements, in a list with room for just these.
+    pub fn from_slice(alloc: Global, elements: &[T]) -> Result<Self, AllocError>
+        ensures { IfOk result (λ list. list ≡ elements.now) }
+    {
+        Ok(Sequence {
+            elements: Vec::from_slice(alloc, elements)?,
+        })
+    }
+
+    /// Adds a copy of the elements at the end. Where memory runs out the list is as it was.
+    pub fn extend_from_slice(&mut self, elements: &[T]) -> Result<(), AllocError>
+        ensures ok { OnOk result (self.new ≡ self.old ++ elements.now) }
+        ensures err { OnErr result (self.new ≡ self.old) }
+    {
+        self.elements.extend_from_slice(elements)
+    }
+}
+
 impl Sequence<u8> {
     /// The bytes of a list of bytes.
     pub fn bytes(&self) -> &[u8]
@@ -112,6 +147,20 @@ mod tests {
         assert_eq!(rt; name.get(3), Some(&b'l'));
         assert_eq!(rt; name.get(4), None);
         assert_eq!(rt; name.into_vec().as_slice(), b"duel".as_slice());
+        Ok(())
+    }
+
+    #[test]
+    fn elements_are_taken_over(rt: HostRuntime) -> Result<(), Fail> {
+        let mut values = Sequence::with_capacity(rt.alloc(), 3)?;
+        assert!(rt; values.is_empty());
+        values.push(7)?;
+        values.extend_from_slice(&[-1, 0i64])?;
+        assert_eq!(rt; values.as_slice(), [7, -1, 0].as_slice());
+        let copied = Sequence::from_slice(rt.alloc(), values.as_slice())?;
+        assert_eq!(rt; copied.as_slice(), values.as_slice());
+        let moved = Sequence::from_vec(copied.into_vec());
+        assert_eq!(rt; moved.as_slice(), values.as_slice());
         Ok(())
     }
 }

@@ -1,5 +1,5 @@
 -- To be believed: what it means that a reader answers what its input is read as.
-use Rattle.std.specs.Prelude.{◌≡◌, ◌≢◌, Result, Err}
+use Rattle.std.specs.Prelude.{◌≢◌, Result, Err}
 
 -- `Reads` relates an input to its answer, a value or a refusal. The answer given is that one, unless memory
 -- ran out, which is answered by `memory`.

@@ -1,5 +1,5 @@
 -- To be believed: words on lists.
-use Rattle.std.specs.Prelude.{◌≢◌, ℤ, pos, ◌+ℤ◌, List, [], ◌∷◌, ◌++◌}
+use Rattle.std.specs.Prelude.{◌≢◌, ℤ, pos, ◌+ℤ◌, ◌*ℤ◌, List, [], ◌∷◌, ◌++◌}
 use Rattle.std.specs.List.{AllByRecursion}
 
 -- no element stands twice
@@ -12,7 +12,19 @@ abbrev pub rotated : {A : Type 0} → List A → List A
 rotated [] = []
 rotated (x ∷ xs) = xs ++ x ∷ []
 
+-- The first list is a part of the second one: some elements of that are left out, and the others stand in the same order.
+pub data IsPart {A : Type 0} : List A → List A → Type 0 where
+  none : IsPart [] []
+  kept : {x : A} {part whole : List A} → IsPart part whole → IsPart (x ∷ part) (x ∷ whole)
+  left_out : {x : A} {part whole : List A} → IsPart part whole → IsPart part (x ∷ whole)
+
 -- the sum
 abbrev pub total : List ℤ → ℤ
 total [] = pos 0
 total (x ∷ xs) = x +ℤ total xs
+
+-- the inner product: the sum of the products of the elements that stand side by side in the two lists
+abbrev pub inner_product : List ℤ → List ℤ → ℤ
+inner_product (x ∷ xs) (y ∷ ys) = (x *ℤ y) +ℤ inner_product xs ys
+inner_product [] ys = pos 0
+inner_product (x ∷ xs) [] = pos 0

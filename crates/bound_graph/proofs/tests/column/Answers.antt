@@ -3,7 +3,7 @@ use Rattle.std.specs.List.{AllByRecursion}
 use Rattle.std.proofs.lemmas.List.{length_push}
 use Rattle.screen_model.specs.declared.place.Place.{Place}
 use Rattle.words.specs.Lists.{Distinct}
-use Rattle.bound_graph.proofs.Lists.{all_push}
+use Rattle.words.proofs.Lists.{all_push}
 use Rattle.bound_graph.proofs.tests.column.Goals as goal
 
 rows_push : (places : List Place) (i : ℕ) (p : Place) → p.row ≤ i + 1 → AllByRecursion (λ q. q.row ≤ i) places → AllByRecursion (λ q. q.row ≤ i + 1) (places ++ p ∷ [])

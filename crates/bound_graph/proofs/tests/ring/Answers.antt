@@ -2,7 +2,7 @@ use Rattle.std.proofs.Common.{ℕ, ◌+◌, ◌*◌, ◌/◌, ◌%◌, ◌^◌, 
 use Rattle.std.proofs.lemmas.List.{length_push, get_or_default}
 use Rattle.screen_model.specs.declared.place.Place.{Place}
 use Rattle.screen_model.specs.Obeys.{HasEnds}
-use Rattle.bound_graph.proofs.Lists.{all_push}
+use Rattle.words.proofs.Lists.{all_push}
 use Rattle.bound_graph.proofs.tests.ring.Goals as goal
 
 contains_at : (places : List Place) (k : ℕ) (d : Place) → k < length places → Contains places (get_or places k d)

@@ -1,6 +1,6 @@
 use Rattle.std.proofs.Common.{◌≡◌, ◌≤◌, ◌+◌, ◌-◌, ℕ, false, length}
 use Rattle.bound_graph.specs.Arcs.{arc_at}
-use Rattle.neg_cycle.specs.Distances.{Keeps}
+use Rattle.bound_graph.specs.Values.{RespectsIfThere}
 use Rattle.neg_cycle.specs.Labels.{IsLabelling, Fell, Lowers}
 use Rattle.neg_cycle.proofs.sweep.sweep_down.Given as goal
 
@@ -10,5 +10,5 @@ invariant-loop-i g l = record {
   labels : IsLabelling (g.A.ArcList.listed l.arcs) (l.bound + (l.count - l.i)) l.labels.distances.items l.labels.parents.items l.labels.ranks.items;
   lowers : Lowers (g.A.ArcList.listed l.arcs) l.initial.labels.distances.items l.labels.distances.items;
   fell : Fell l.fell l.initial.labels.distances.items l.labels.distances.items;
-  kept : l.fell ≡ false → (j : ℕ) → l.i ≤ j → Keeps l.labels.distances.items (arc_at (g.A.ArcList.listed l.arcs) j);
+  kept : l.fell ≡ false → (j : ℕ) → l.i ≤ j → RespectsIfThere l.labels.distances.items (arc_at (g.A.ArcList.listed l.arcs) j);
 }

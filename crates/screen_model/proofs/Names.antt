@@ -1,0 +1,113 @@
+-- Bounds that are told by their names.
+use Rattle.std.proofs.Common.{◌≡◌, ◌≢◌, true, false, cond, ◌⊎◌, inl, inr, List, [], ◌∷◌, ◌++◌, refl, sym, ap, ◌∙◌, subst}
+use Rattle.std.specs.Prelude.{Contains, filter}
+use Rattle.std.specs.List.{AllByRecursion}
+use Rattle.std.proofs.lemmas.Bool.{eqb-true, eq-eqb, and_from, and_parts, false≢true, false_from_ne_true}
+use Rattle.screen_model.specs.declared.bound.BoundName.{BoundName}
+use Rattle.screen_model.specs.declared.bound.Side.{Side}
+use Rattle.screen_model.specs.declared.bound.Side.TheVariants.{Up, Down}
+use Rattle.words.specs.Lists.{Distinct, IsPart, none, kept, left_out}
+use Rattle.words.proofs.Lists.{all_weaker, all_at, all_from_map, contains_cases, contains_none, contains_map}
+use Rattle.words.proofs.Parts.{part_map, part_all, part_contains}
+use Rattle.screen_model.specs.Obeys.{Priced}
+use Rattle.screen_model.specs.Names.{is_same_side, is_same_name, names_of, AreNamesIn, bounds_named}
+use Rattle.screen_model.specs.Parts.{NamesStay}
+
+-- ---- names
+
+same_side : (side : Side) → is_same_side side side ≡ true
+same_side Up = refl
+same_side Down = refl
+
+side_from_same : (m n : Side) → is_same_side m n ≡ true → m ≡ n
+side_from_same Up Up h = refl
+side_from_same Down Down h = refl
+side_from_same Up Down h = absurd (false≢true h)
+side_from_same Down Up h = absurd (false≢true h)
+
+pub same_name : (name : BoundName) → is_same_name name name ≡ true
+same_name name =
+    and_from _ _ (eq-eqb name.rule name.rule refl)
+    (and_from _ _ (eq-eqb name.from_row name.from_row refl)
+    (and_from _ _ (eq-eqb name.to_row name.to_row refl)
+    (and_from _ _ (eq-eqb name.col name.col refl) (same_side name.side))))
+
+pub name_from_same : (m n : BoundName) → is_same_name m n ≡ true → m ≡ n
+name_from_same m n h =
+    let a = and_parts _ _ h in
+    let b = and_parts _ _ a.1 in
+    let c = and_parts _ _ b.1 in
+    let d = and_parts _ _ c.1 in
+    let rule = eqb-true m.rule n.rule a.0 in
+    let from_row = eqb-true m.from_row n.from_row b.0 in
+    let to_row = eqb-true m.to_row n.to_row c.0 in
+    let col = eqb-true m.col n.col d.0 in
+    let side = side_from_same m.side n.side d.1 in
+    λ i. record { rule = rule i; from_row = from_row i; to_row = to_row i; col = col i; side = side i }
+
+pub other_name : (m n : BoundName) → m ≢ n → is_same_name m n ≡ false
+other_name m n h = false_from_ne_true (is_same_name m n) (λ same. h (name_from_same m n same))
+
+-- ---- what bears a name
+
+abbrev pub bearing : {A : Type 0} → (A → BoundName) → BoundName → List A → List A
+bearing name_of name xs = filter (λ x. is_same_name name (name_of x)) xs
+
+pub bearing_passes : {A : Type 0} (name_of : A → BoundName) (x : A) (xs : List A) → bearing name_of (name_of x) (x ∷ xs) ≡ x ∷ bearing name_of (name_of x) xs
+bearing_passes name_of x xs = ap (λ same. cond same (x ∷ bearing name_of (name_of x) xs) (bearing name_of (name_of x) xs)) (same_name (name_of x))
+
+pub bearing_skips : {A : Type 0} (name_of : A → BoundName) (name : BoundName) (x : A) (xs : List A) → name ≢ name_of x → bearing name_of name (x ∷ xs) ≡ bearing name_of name xs
+bearing_skips name_of name x xs other = ap (λ same. cond same (x ∷ bearing name_of name xs) (bearing name_of name xs)) (other_name name (name_of x) other)
+
+pub bearing_none : {A : Type 0} (name_of : A → BoundName) (name : BoundName) (xs : List A) → AllByRecursion (λ x. name ≢ name_of x) xs → bearing name_of name xs ≡ []
+bearing_none name_of name [] others = refl
+bearing_none name_of name (x ∷ xs) others = bearing_skips name_of name x xs others.0 ∙ bearing_none name_of name xs others.1
+
+-- the name of a bound
+abbrev pub name_of : Priced → BoundName
+name_of priced = priced.bound.name
+
+-- where names are distinct, the bound of a name is the one that bears it
+found : (priced : Priced) (first : Priced) (bounds : List Priced) → Distinct (names_of (first ∷ bounds)) → (first ≡ priced) ⊎ Contains bounds priced
+    → (Contains bounds priced → bearing name_of (name_of priced) bounds ≡ priced ∷ []) → bearing name_of (name_of priced) (first ∷ bounds) ≡ priced ∷ []
+found priced first bounds distinct (inl e) rest =
+    let none_left = bearing_none name_of (name_of first) bounds (all_from_map (λ name. name_of first ≢ name) name_of bounds distinct.0) in
+    subst (λ (p : Priced). bearing name_of (name_of p) (first ∷ bounds) ≡ p ∷ []) e (bearing_passes name_of first bounds ∙ ap (λ ps. first ∷ ps) none_left)
+found priced first bounds distinct (inr later) rest =
+    bearing_skips name_of (name_of priced) first bounds (λ e. all_at (λ name. name_of first ≢ name) (names_of bounds) (name_of priced) distinct.0 (contains_map name_of bounds priced later) (sym e))
+    ∙ rest later
+
+pub bound_named : (bounds : List Priced) (priced : Priced) → Distinct (names_of bounds) → Contains bounds priced → filter (λ other. is_same_name priced.bound.name other.bound.name) bounds ≡ priced ∷ []
+bound_named [] priced distinct h = absurd (contains_none priced h)
+bound_named (first ∷ bounds) priced distinct h = found priced first bounds distinct (contains_cases first bounds priced h) (bound_named bounds priced distinct.1)
+
+-- ---- names of bounds of a part
+
+kept_stays : (name : BoundName) (first : Priced) (part bounds : List Priced) → IsPart part bounds → Distinct (names_of (first ∷ bounds)) → (name_of first ≡ name) ⊎ Contains (names_of part) name
+    → (Contains (names_of part) name → bearing name_of name bounds ≡ bearing name_of name part) → bearing name_of name (first ∷ bounds) ≡ bearing name_of name (first ∷ part)
+kept_stays name first part bounds is_part distinct (inl e) rest =
+    let others : AllByRecursion (λ (other : Priced). name ≢ name_of other) bounds = subst (λ n. AllByRecursion (λ (other : Priced). n ≢ name_of other) bounds) e (all_from_map (λ name. name_of first ≢ name) name_of bounds distinct.0) in
+    let same : bearing name_of name bounds ≡ bearing name_of name part = bearing_none name_of name bounds others ∙ sym (bearing_none name_of name part (part_all (λ (other : Priced). name ≢ name_of other) is_part others)) in
+    ap (λ ps. cond (is_same_name name (name_of first)) (first ∷ ps) ps) same
+kept_stays name first part bounds is_part distinct (inr later) rest = ap (λ ps. cond (is_same_name name (name_of first)) (first ∷ ps) ps) (rest later)
+
+-- a bound that is left out does not bear the name of one in the part
+pub not_left_out : (name : BoundName) (first : Priced) {part bounds : List Priced} → IsPart part bounds → Distinct (names_of (first ∷ bounds)) → Contains (names_of part) name → name_of first ≢ name
+not_left_out name first {bounds = bounds} is_part distinct h = all_at (λ other. name_of first ≢ other) (names_of bounds) name distinct.0 (part_contains (part_map name_of is_part) name h)
+
+name_stays : (name : BoundName) {part bounds : List Priced} → IsPart part bounds → Distinct (names_of bounds) → Contains (names_of part) name → bearing name_of name bounds ≡ bearing name_of name part
+name_stays name none distinct h = refl
+name_stays name (kept {x = first} {part = part} {whole = bounds} rest) distinct h = kept_stays name first part bounds rest distinct (contains_cases (name_of first) (names_of part) name h) (name_stays name rest distinct.1)
+name_stays name (left_out {x = first} {whole = bounds} rest) distinct h = bearing_skips name_of name first bounds (λ e. not_left_out name first rest distinct h (sym e)) ∙ name_stays name rest distinct.1 h
+
+names_stay : (names : List BoundName) {part bounds : List Priced} → IsPart part bounds → Distinct (names_of bounds) → AreNamesIn part names → bounds_named names bounds ≡ bounds_named names part
+names_stay [] is_part distinct named = refl
+names_stay (name ∷ names) {part = part} {bounds = bounds} is_part distinct named =
+    ap (λ ps. ps ++ bounds_named names bounds) (name_stays name is_part distinct named.0)
+    ∙ ap (λ ps. bearing name_of name part ++ ps) (names_stay names is_part distinct named.1)
+
+pub still_named : (names : List BoundName) {part bounds : List Priced} → IsPart part bounds → AreNamesIn part names → AreNamesIn bounds names
+still_named names {part = part} {bounds = bounds} is_part named = all_weaker (Contains (names_of part)) (Contains (names_of bounds)) (part_contains (part_map name_of is_part)) names named
+
+pub stay : NamesStay
+stay part bounds names is_part distinct named = (still_named names is_part named, names_stay names is_part distinct named)
