@@ -6,35 +6,47 @@ NAME ?= screen
 BINARY := crates/screen/out/screen
 BUILD_LOG := crates/screen/out/build.log
 SOURCES := crates.txt $(shell find crates -name out -prune -o -type f \( -name '*.rt' -o -name '*.antt' \) -print)
-FIRST := examples/first
-CERT := crates/screen/out/first.cert
+EXAMPLE := examples/cold_room
+CERT := crates/screen/out/example.cert
+HAS_RT := command -v rt > /dev/null || { echo 'The command rt of the Rattle kit is not on the path.'; exit 1; }
 
-.PHONY: docs all demo test install clean
+# Prints a line as the proof of a crate ends, out of what rt says.
+PROOFS := while IFS= read -r line; do case $$line in \
+	'crate '*': modules '*) crate=$${line\#crate } && crate=$${crate%%:*} ;; \
+	logic=proved*) echo "  $$crate is proved" ;; \
+	esac; done
+
+.PHONY: all demo test check-docs install clean
 
 all: $(BINARY)
 
 # Only what is proved is built. The build runs the program without words: it prints its usage and exits with 2.
 $(BINARY): $(SOURCES)
-	@command -v rt > /dev/null || { echo 'The command rt of the Rattle toolchain is not on the path.'; exit 1; }
-	@echo 'Building screen. The first build proves every part of it, which takes some fifteen minutes on four processors.'
+	@$(HAS_RT)
+	@echo 'Building screen. The first build proves every crate of it, which takes some fifteen minutes on four processors.'
 	@mkdir -p $(dir $(BINARY)) && rm -f $(BINARY)
-	@(cd crates/screen && rt run) > $(BUILD_LOG) 2>&1; test -x $(BINARY) || \
-		{ tail -n 20 $(BUILD_LOG); echo 'The build failed. All that it printed is in $(BUILD_LOG).'; exit 1; }
+	@(cd crates/screen && rt run) < /dev/null 2>&1 | tee $(BUILD_LOG) | { $(PROOFS); }
+	@test -x $(BINARY) || { tail -n 20 $(BUILD_LOG); echo 'The build failed. All that it printed is in $(BUILD_LOG).'; exit 1; }
 
-# Runs the first example, prints what it writes, and compares that with what it should write.
+# Runs an example, prints what it writes, and compares that with what it should write.
 demo: $(BINARY)
-	@echo '$$ $(BINARY) global $(FIRST)/rules.toml $(FIRST)/readings.csv $(CERT)'
-	@$(BINARY) global $(FIRST)/rules.toml $(FIRST)/readings.csv $(CERT) | tee $(CERT).csv
+	@echo '$$ $(BINARY) global $(EXAMPLE)/rules.toml $(EXAMPLE)/readings.csv $(CERT)'
+	@$(BINARY) global $(EXAMPLE)/rules.toml $(EXAMPLE)/readings.csv $(CERT) > $(CERT).csv
+	@cat $(CERT).csv
 	@echo '$$ cat $(CERT)'
 	@cat $(CERT)
-	@cmp $(CERT).csv $(FIRST)/readings.csv && cmp $(CERT) $(FIRST)/expected.cert
+	@cmp $(CERT).csv $(EXAMPLE)/expected.out && cmp $(CERT) $(EXAMPLE)/expected.cert
 
+# Proves everything again, which also builds the program, and tries the program and the documents.
 test:
-	rt ci
+	@$(HAS_RT)
+	@rt ci < /dev/null
+	@tests/documents
+	@tests/program $(BINARY)
 
-# The table of keys in the documentation is the one that the description of rule files prints.
-docs:
-	@sed -n '/^| table | key /,/^$$/{/^$$/!p}' docs/FORMATS.md | cmp - crates/key_table/stdout && echo 'docs/FORMATS.md has the keys of rule files.'
+# What the documents copy from elsewhere is what stands there.
+check-docs:
+	@tests/documents
 
 install: $(BINARY)
 	install -D -m 755 $(BINARY) $(DESTDIR)$(PREFIX)/bin/$(NAME)
