@@ -1,5 +1,5 @@
 //! A number text taken apart.
-ghost use Rattle.std.specs.Prelude.{◌≡◌, ℕ, ◌+◌, ◌<◌, ◌≤◌, ◌^◌, length, IfSome, IfNone, IsTrue, slice_index, List, ◌∷◌, if◌then◌else◌};
+ghost use Rattle.std.specs.Prelude.{◌≡◌, ◌+◌, ◌<◌, ◌^◌, length, IfSome, IfNone, IsTrue, slice_index, ◌∷◌, if◌then◌else◌};
 ghost use Rattle.std.specs.Char.{is_ascii_digit};
 ghost use Rattle.std.specs.Str.Parse.{digits_value_after};
 ghost use Rattle.fix_point.specs.Grammar.{is_blank, no_exponent, IsExponent, IsNumberText, fraction_digits};
