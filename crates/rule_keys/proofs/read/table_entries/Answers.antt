@@ -6,7 +6,7 @@ use Rattle.rule_keys.specs.Seen.{seen}
 use Rattle.rule_keys.proofs.Fits.{fit_of_reads, defaults_fit, checks_within}
 use Rattle.rule_keys.proofs.Known.{only_from, not_only_from}
 use Rattle.rule_keys.proofs.KeyByKey.{unknown_key, refused_key, refused_check, accepted}
-use Rattle.rule_keys.proofs.read.read_table.Goals as goal
+use Rattle.rule_keys.proofs.read.table_entries.Goals as goal
 
 pub returns-then-not-has_only-clause-answer : goal.returns-then-not-has_only-clause-answer
 returns-then-not-has_only-clause-answer c =
