@@ -8,7 +8,7 @@ use Rattle.std.proofs.lemmas.List.Folds.{list_all-append}
 use Rattle.std.proofs.lemmas.List.{length-append}
 use Rattle.fix_point.specs.Grammar.{is_blank, Sign, none, plus, minus, Fraction, no_point, point, fraction_text, fraction_digits, no_exponent, exponent, IsExponent, IsNumberText}
 use Rattle.fix_point.specs.Scaled.{tens_above, tens_below}
-use Rattle.fix_point.specs.Reading.{front, after_front, sign_of, after_sign, is_minus, fraction_of, is_letter, exponent_of, after_exponent, at_sign, at_whole, at_fraction, at_exponent, parts_of, AreTensOf, IsNumberOf}
+use Rattle.fix_point.specs.PartsOf.{front, after_front, sign_of, after_sign, is_minus, fraction_of, is_letter, exponent_of, after_exponent, at_sign, at_whole, at_fraction, at_exponent, parts_of, AreTensOf, IsNumberOf}
 use Rattle.fix_point.specs.declared.number.Number.{Number}
 use Rattle.fix_point.specs.declared.number.Tens.{Tens}
 use Rattle.fix_point.proofs.Pieces.{is_cut, all_from_empty, empty_from_all}

@@ -1,10 +1,10 @@
 -- A text has one answer.
-use Rattle.std.proofs.Common.{◌≡◌, ℕ, ◌+◌, ◌*◌, ◌<◌, ◌≤◌, ℤ, List, Result, Ok, Err, length, inl, inr, refl, sym, ap, ◌∙◌, subst, arith}
+use Rattle.std.proofs.Common.{◌≡◌, ℕ, ◌+◌, ◌*◌, ◌<◌, ◌≤◌, ℤ, List, Result, Ok, Err, IfOk, IfErr, length, inl, inr, refl, sym, ap, ◌∙◌, subst, arith}
 use Rattle.std.proofs.Math.Nat.{mul-le-mul_right}
 use Rattle.std.proofs.lemmas.Nat.{same_from_place}
 use Rattle.std.proofs.lemmas.Bool.{cases_lt}
 use Rattle.fix_point.specs.Grammar.{Parts, fraction_digits, IsNumberText}
-use Rattle.fix_point.specs.Scaled.{signed, tens_below, denominator, IsExact, IsNearest, IsTaken, IsScaled, Refuses, IsAnswer}
+use Rattle.fix_point.specs.Scaled.{signed, tens_below, denominator, IsExact, IsNearest, IsTaken, IsScaled, Reads, Spells, Refuses}
 use Rattle.fix_point.specs.declared.scale.Extra.{Extra}
 use Rattle.fix_point.specs.declared.scale.Extra.TheVariants.{Refuse, Round}
 use Rattle.fix_point.specs.declared.scale.NumFault.{NumFault}
@@ -68,8 +68,13 @@ one_value text d extra most one other p q =
     let size = size_taken text d extra p.parts q.parts p.size q.size p.number q.number p.taken q.taken in
     p.value_is ∙ (ap (λ given. signed given.sign p.size) parts ∙ (ap (λ n. signed q.parts.sign n) size ∙ sym q.value_is))
 
-pub one_answer_only : (text : List ℕ) (d : ℕ) (extra : Extra) (most : ℤ) (one other : Result ℤ NumFault) → IsAnswer text d extra most one → IsAnswer text d extra most other → one ≡ other
+pub one_answer_only : (text : List ℕ) (d : ℕ) (extra : Extra) (most : ℤ) (one other : Result ℤ NumFault) → Reads text d extra most one → Reads text d extra most other → one ≡ other
 one_answer_only text d extra most (Ok one) (Ok other) p q = ap Ok (one_value text d extra most one other p q)
 one_answer_only text d extra most (Ok one) (Err fault) p q = absurd (value_or_fault text d extra most one fault p q)
 one_answer_only text d extra most (Err fault) (Ok other) p q = absurd (value_or_fault text d extra most other fault q p)
 one_answer_only text d extra most (Err one) (Err other) p q = ap Err (one_fault text d extra most one other p q)
+
+-- what a reader answers is what the text is read as
+pub is_read : (text : List ℕ) (d : ℕ) (extra : Extra) (most : ℤ) (result : Result ℤ NumFault) → IfOk result (Spells text d extra most) → IfErr result (Refuses text d extra most) → Reads text d extra most result
+is_read text d extra most (Ok value) spells refuses = spells
+is_read text d extra most (Err fault) spells refuses = refuses

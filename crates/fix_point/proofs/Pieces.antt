@@ -3,7 +3,7 @@ use Rattle.std.proofs.Common.{◌≡◌, ℕ, ◌+◌, Bool, true, false, List, 
 use Rattle.std.specs.List.{list_all}
 use Rattle.std.proofs.lemmas.List.{append-nil}
 use Rattle.std.proofs.lemmas.Bool.{cond-true, cond-false, and_parts, and_from}
-use Rattle.fix_point.specs.Reading.{front, after_front}
+use Rattle.fix_point.specs.PartsOf.{front, after_front}
 
 -- whether a first member is there and passes
 abbrev pub starts : (ℕ → Bool) → List ℕ → Bool

@@ -7,7 +7,7 @@ use Rattle.std.proofs.lemmas.Bool.Decides.{nat_tests}
 use Rattle.std.proofs.lemmas.List.Folds.{list_all-append}
 use Rattle.std.proofs.lemmas.List.{append_assoc}
 use Rattle.fix_point.specs.Grammar.{is_blank, Sign, none, plus, minus, sign_text, Fraction, no_point, point, fraction_text, fraction_digits, Exponent, no_exponent, exponent, exponent_text, Parts, text_of_parts, IsExponent, IsNumberText}
-use Rattle.fix_point.specs.Reading.{front, after_front, sign_of, after_sign, fraction_of, after_fraction, is_letter, exponent_of, after_exponent, at_sign, at_whole, at_fraction, at_exponent, parts_of}
+use Rattle.fix_point.specs.PartsOf.{front, after_front, sign_of, after_sign, fraction_of, after_fraction, is_letter, exponent_of, after_exponent, at_sign, at_whole, at_fraction, at_exponent, parts_of}
 use Rattle.fix_point.proofs.Pieces.{starts, front_append, after_append, is_cut}
 
 -- what is no part of the text before its last blanks

@@ -11,7 +11,7 @@ use Rattle.fix_point.proofs.Pieces.{is_cut, after_stops}
 use Rattle.std.proofs.lemmas.List.{take_all}
 use Rattle.std.proofs.lemmas.Bool.Decides.{nat_tests}
 use Rattle.std.proofs.lemmas.Str.{digit_value_digit}
-use Rattle.fix_point.specs.Reading.{front, after_front}
+use Rattle.fix_point.specs.PartsOf.{front, after_front}
 
 -- What is read of bytes so far, and is left of them, is what is to be read.
 pub record IsPartRead (bytes : List ℕ) (before : ℕ) (rest : List ℕ) (value : ℕ) : Type 0 where

@@ -1,6 +1,6 @@
 pub mod Grammar
+pub mod PartsOf
 pub mod Rates
-pub mod Reading
 pub mod Scaled
 pub mod Sizes
 pub mod Text

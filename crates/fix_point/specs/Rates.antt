@@ -1,4 +1,4 @@
--- Whole steps at a rate.
+-- To be believed: whole steps at a rate.
 use Rattle.std.specs.Prelude.{ℕ, ◌*◌, ◌^◌, ℤ, pos, ◌*ℤ◌, ◌≤ℤ◌}
 use Rattle.fix_point.specs.declared.rate.Rate.{Rate}
 

@@ -1,4 +1,4 @@
--- The number of a text, times a power of ten, as a whole number.
+-- To be believed: what a text is read as, times a power of ten and as a whole number.
 use Rattle.std.specs.Prelude.{◌≡◌, ℕ, ◌+◌, ◌*◌, ◌^◌, ◌<◌, ◌≤◌, ℤ, pos, neg_ℤ, List, length, Result, Ok, Err, unsigned_abs}
 use Rattle.std.specs.Str.Parse.{digits_value}
 use Rattle.fix_point.specs.Grammar.{Parts, Sign, none, plus, minus, Exponent, no_exponent, exponent, fraction_digits, mantissa_digits, IsNumberText}
@@ -57,15 +57,20 @@ pub record IsScaled (text : List ℕ) (d : ℕ) (extra : Extra) (most : ℤ) (va
   pub value_is : value ≡ signed parts.sign size
   pub small : size ≤ unsigned_abs most
 
--- Each refusal looks at what the ones before it left: at the grammar, whether the number is whole, its size.
-abbrev pub Refuses : List ℕ → ℕ → Extra → ℤ → NumFault → Type 0
-Refuses text d extra most NotNumber = (parts : Parts) → ¬ IsNumberText text parts
-Refuses text d extra most TooFine =
+-- What a text is read as: a whole number of units of 10^-d, at most so great in size, or why it is none. Each
+-- refusal looks at what the ones before it left: the grammar, whether the number is whole, its size.
+abbrev pub Reads : List ℕ → ℕ → Extra → ℤ → Result ℤ NumFault → Type 0
+Reads text d extra most (Ok value) = IsScaled text d extra most value
+Reads text d extra most (Err NotNumber) = (parts : Parts) → ¬ IsNumberText text parts
+Reads text d extra most (Err TooFine) =
     (parts : Parts) × IsNumberText text parts × (extra ≡ Refuse) × ((size : ℕ) → ¬ IsExact parts d size)
-Refuses text d extra most OutOfRange =
+Reads text d extra most (Err OutOfRange) =
     (parts : Parts) × IsNumberText text parts × (size : ℕ) × IsTaken extra parts d size × (unsigned_abs most < size)
 
--- the one or the other
-abbrev pub IsAnswer : List ℕ → ℕ → Extra → ℤ → Result ℤ NumFault → Type 0
-IsAnswer text d extra most (Ok value) = IsScaled text d extra most value
-IsAnswer text d extra most (Err fault) = Refuses text d extra most fault
+-- the text is this value
+abbrev pub Spells : List ℕ → ℕ → Extra → ℤ → ℤ → Type 0
+Spells text d extra most value = Reads text d extra most (Ok value)
+
+-- the text is refused for this
+abbrev pub Refuses : List ℕ → ℕ → Extra → ℤ → NumFault → Type 0
+Refuses text d extra most fault = Reads text d extra most (Err fault)

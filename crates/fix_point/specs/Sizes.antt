@@ -1,4 +1,4 @@
--- The whole number that is taken for a fraction.
+-- For proofs: the whole number that is taken for a fraction, whose parts are given by numbers.
 use Rattle.std.specs.Prelude.{◌≡◌, ℕ, ◌+◌, ◌*◌, ◌<◌, ◌≤◌}
 use Rattle.fix_point.specs.declared.scale.Extra.{Extra}
 use Rattle.fix_point.specs.declared.scale.Extra.TheVariants.{Refuse, Round}

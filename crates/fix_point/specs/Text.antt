@@ -1,4 +1,4 @@
--- The text of a whole number of units.
+-- To be believed: the text of a whole number of units.
 use Rattle.std.specs.Prelude.{ℕ, zero, suc, ◌+◌, ◌/◌, ◌%◌, ◌^◌, ℤ, pos, negsuc, List, [], ◌∷◌, ◌++◌, decimal, unsigned_abs}
 
 -- the last digits of a number, in so many places

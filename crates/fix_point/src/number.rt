@@ -1,8 +1,9 @@
-ghost use Rattle.std.specs.Prelude.{◌≡◌, ℕ, ◌+◌, ◌<◌, ◌≤◌, ◌^◌, length, IfSome, IfNone, IsTrue, slice_index, List, ◌∷◌, if◌then◌else◌};
+//! A number text taken apart.
+ghost use Rattle.std.specs.Prelude.{◌≡◌, ◌+◌, ◌<◌, ◌^◌, length, IfSome, IfNone, IsTrue, slice_index, ◌∷◌, if◌then◌else◌};
 ghost use Rattle.std.specs.Char.{is_ascii_digit};
 ghost use Rattle.std.specs.Str.Parse.{digits_value_after};
 ghost use Rattle.fix_point.specs.Grammar.{is_blank, no_exponent, IsExponent, IsNumberText, fraction_digits};
-ghost use Rattle.fix_point.specs.Reading.{front, after_front, sign_of, after_sign, is_minus, fraction_of, after_fraction, is_letter, exponent_of, after_exponent, parts_of, AreTensOf, IsNumberOf};
+ghost use Rattle.fix_point.specs.PartsOf.{front, after_front, sign_of, after_sign, is_minus, fraction_of, after_fraction, is_letter, exponent_of, after_exponent, parts_of, AreTensOf, IsNumberOf};
 
 /// The most bytes of a number text.
 const MOST_BYTES: usize = 64;
@@ -42,6 +43,7 @@ struct Digits<'a> {
     rest: &'a [u8],
 }
 
+/// Whether the byte is a space or a tab.
 fn is_blank_byte(byte: u8) -> bool
     ensures { result ≡ is_blank byte }
 {
@@ -99,7 +101,7 @@ fn digits_at(bytes: &[u8], before: u128) -> Digits<'_>
     Digits { value, count, rest }
 }
 
-/// The same of the digits behind a point at the front, if there is one.
+/// The same of the digits after a point at the front, if there is one.
 fn fraction_at(bytes: &[u8], whole: u128) -> Digits<'_>
     requires { whole < 10 ^ 30 }
     ensures value { digits_value_after 10 whole (fraction_digits (fraction_of bytes.now)) < 10 ^ 30 →

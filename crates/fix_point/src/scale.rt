@@ -1,7 +1,8 @@
+//! Decimal texts as whole numbers of a unit.
 ghost use Rattle.std.specs.Prelude.{◌≡◌, ◌*◌, ◌^◌, ◌<◌, ◌≤◌, ℕ, ℤ, pos, ◌≤ℤ◌, List, Result, IfOk, IfErr};
 ghost use Rattle.fix_point.specs.Grammar.{Parts, IsNumberText};
-ghost use Rattle.fix_point.specs.Scaled.{IsScaled, Refuses, IsAnswer};
-ghost use Rattle.fix_point.specs.Reading.{signed_by};
+ghost use Rattle.fix_point.specs.Scaled.{Reads, Spells, Refuses};
+ghost use Rattle.fix_point.specs.PartsOf.{signed_by};
 
 use crate::number::{Number, Tens, number_of};
 use crate::size::size_of;
@@ -48,7 +49,21 @@ pub fn scaled(text: &[u8], d: u32, extra: Extra, most: i64) -> Result<i64, NumFa
     requires decimals { d ≤ 9 }
     requires least { pos 0 ≤ℤ most }
     requires greatest { most ≤ℤ pos (9 * 10 ^ 18) }
-    ensures accepted { IfOk result (λ value. IsScaled text.now d extra most value) }
+    ensures accepted { IfOk result (Spells text.now d extra most) }
+    ensures refused { IfErr result (Refuses text.now d extra most) }
+    ensures only { (answer : Result ℤ NumFault) → Reads text.now d extra most answer → result ≡ answer }
+{
+    // The law behind `only`; it does nothing.
+    one_answer();
+    signed_size(text, d, extra, most)
+}
+
+/// What the text is read as.
+fn signed_size(text: &[u8], d: u32, extra: Extra, most: i64) -> Result<i64, NumFault>
+    requires decimals { d ≤ 9 }
+    requires least { pos 0 ≤ℤ most }
+    requires greatest { most ≤ℤ pos (9 * 10 ^ 18) }
+    ensures accepted { IfOk result (Spells text.now d extra most) }
     ensures refused { IfErr result (Refuses text.now d extra most) }
 {
     let Some(number) = number_of(text) else {
@@ -69,8 +84,9 @@ pub fn scaled(text: &[u8], d: u32, extra: Extra, most: i64) -> Result<i64, NumFa
 /// As `scaled`.
 pub fn units(text: &[u8], d: u32, extra: Extra) -> Result<i64, NumFault>
     requires { d ≤ 9 }
-    ensures accepted { IfOk result (λ value. IsScaled text.now d extra (pos (10 ^ 15)) value) }
-    ensures refused { IfErr result (Refuses text.now d extra (pos (10 ^ 15))) }
+    ensures accepted { IfOk result (Spells text.now d extra MOST_UNITS) }
+    ensures refused { IfErr result (Refuses text.now d extra MOST_UNITS) }
+    ensures only { (answer : Result ℤ NumFault) → Reads text.now d extra MOST_UNITS answer → result ≡ answer }
 {
     scaled(text, d, extra, MOST_UNITS)
 }
@@ -82,8 +98,18 @@ pub fn one_value()
 
 /// A text has one answer only: one value, or one refusal.
 pub fn one_answer()
-    ensures { (text : List ℕ) (d : ℕ) (extra : Extra) (most : ℤ) (one other : Result ℤ NumFault) → IsAnswer text d extra most one → IsAnswer text d extra most other → one ≡ other }
+    ensures { (text : List ℕ) (d : ℕ) (extra : Extra) (most : ℤ) (one other : Result ℤ NumFault) → Reads text d extra most one → Reads text d extra most other → one ≡ other }
 {}
+
+/// Every text has an answer: a value, or a refusal.
+pub fn an_answer(text: &[u8], d: u32, extra: Extra, most: i64)
+    requires decimals { d ≤ 9 }
+    requires least { pos 0 ≤ℤ most }
+    requires greatest { most ≤ℤ pos (9 * 10 ^ 18) }
+    ensures { (answer : Result ℤ NumFault) × Reads text.now d extra most answer }
+{
+    let _answer = scaled(text, d, extra, most);
+}
 
 /// A number of this size, below 0 where it is negative.
 fn signed(negative: bool, size: u64) -> i64

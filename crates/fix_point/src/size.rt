@@ -1,3 +1,4 @@
+//! A mantissa and its tens as a whole number.
 ghost use Rattle.std.specs.Prelude.{◌≡◌, ℕ, ◌+◌, ◌*◌, ◌/◌, ◌%◌, ◌<◌, ◌≤◌, ◌^◌, IfOk, IfErr, IfSome, IfNone};
 ghost use Rattle.fix_point.specs.Sizes.{IsSize, IsTakenFor, RefusesSize};
 

@@ -1,6 +1,7 @@
+//! Whole numbers of a unit as decimal texts.
 ghost use Rattle.std.specs.Prelude.{◌≡◌, ℕ, ℤ, ◌++◌, ◌^◌, ◌<◌, ◌≤◌, IfOk, OnOk, decimal, unsigned_abs};
 ghost use Rattle.fix_point.specs.declared.scale.Extra.{Extra};
-ghost use Rattle.fix_point.specs.Scaled.{IsScaled};
+ghost use Rattle.fix_point.specs.Scaled.{Spells};
 ghost use Rattle.fix_point.specs.Text.{decimals_text, places, minus_text, text_of_value};
 
 use std::alloc::{AllocError, Global};
@@ -28,7 +29,7 @@ pub fn text_of(alloc: Global, v: i128, d: u32) -> Result<Vec<u8>, AllocError>
 /// The text of 10^30 itself has 31, and is no number text.
 pub fn texts_are_read_back()
     ensures { (v most : ℤ) (d : ℕ) (extra : Extra) → d ≤ 6 → unsigned_abs v < 10 ^ 30 → unsigned_abs v ≤ unsigned_abs most →
-        IsScaled (text_of_value v d) d extra most v }
+        Spells (text_of_value v d) d extra most v }
 {}
 
 /// Adds a point and the last so many digits of a number, where they are any.

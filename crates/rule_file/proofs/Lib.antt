@@ -1,3 +1,4 @@
+pub mod Continues
 pub mod Facts
 pub mod Known
 pub mod Names

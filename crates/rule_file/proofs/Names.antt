@@ -11,7 +11,7 @@ use Rattle.rule_keys.specs.declared.key.Key.{Key}
 use Rattle.rule_keys.specs.declared.read.Scale.{Scale}
 use Rattle.rule_keys.specs.Entries.{Meaning, is_same_key, meaning_at, name_in, name_at}
 use Rattle.rule_keys.specs.Keys.{key_of, keys_of, checks_of}
-use Rattle.rule_keys.specs.Reading.{Reads, ReadsKeys, ReadsKey, ReadsFound, Passes}
+use Rattle.rule_keys.specs.Table.{Reads, ReadsKeys, ReadsKey, ReadsFound, Passes}
 use Rattle.rule_keys.specs.Words.{key_text}
 use Rattle.rule_file.specs.Draft.{IsRead}
 use Rattle.rule_file.specs.Meaning.{Entries}

@@ -2,24 +2,24 @@
 use Rattle.std.proofs.Common.{◌≡◌, ◌⊎◌, ℕ, ◌+◌, List, [], ◌∷◌, Option, Some, None, Result, Ok, Err, inl, inr, sym, ap, ◌∙◌, subst, arith}
 use Rattle.toml.specs.Data.{Data, string, integer, float, boolean, datetime, array, table, Members, get_member}
 use Rattle.time_text.specs.declared.form.TimeForm.TheVariants.{Sec}
-use Rattle.rule_keys.specs.declared.cause.RuleCause.{RuleCause}
-use Rattle.rule_keys.specs.declared.cause.RuleCause.TheVariants.{Syntax}
+use Rattle.rule_keys.specs.declared.cause.KeyCause.{KeyCause}
+use Rattle.rule_file.specs.declared.fault.RuleCause.TheVariants.{Syntax}
 use Rattle.rule_keys.specs.declared.key.TableKind.{TableKind}
 use Rattle.rule_keys.specs.declared.key.TableKind.TheVariants.{Format}
 use Rattle.rule_keys.specs.declared.read.Scale.{Scale}
-use Rattle.rule_keys.specs.Reading.{Reads}
+use Rattle.rule_keys.specs.Table.{Reads}
 use Rattle.rule_file.specs.declared.fault.RuleFault.{RuleFault}
 use Rattle.rule_file.specs.declared.rules.Rules.{Rules}
 use Rattle.rule_file.specs.Meaning.{Entries, scale_of, AreRulesOf}
-use Rattle.rule_file.specs.Document.{kind_text, rule_kinds, of_the_file, rule_tables, ReadsRules, ReadsAll, ReadsTables, ReadsFormat, ReadsWith, ReadsDocument}
+use Rattle.rule_file.specs.Document.{kind_text, rule_kinds, rule_tables, ReadsRules, ReadsAll, ReadsTables, ReadsFormat, ReadsWith, ReadsDocument}
+use Rattle.rule_file.specs.Fault.{cause_of_key, of_the_file, of_rule}
 use Rattle.rule_file.specs.Toml.{IsToml}
-use Rattle.rule_file.specs.Reading.{ReadsFile}
-use Rattle.rule_file.specs.Told.{Tells}
+use Rattle.rule_file.specs.File.{ReadsFile}
 use Rattle.rule_file.proofs.OneRule.{one_rules}
 
 -- what is proved of tables
 abbrev pub TablesAreOne : Type 0
-TablesAreOne = (scale : Scale) (kind : TableKind) (given : Members) (one other : Result Entries RuleCause) → Reads scale kind given one → Reads scale kind given other → one ≡ other
+TablesAreOne = (scale : Scale) (kind : TableKind) (given : Members) (one other : Result Entries KeyCause) → Reads scale kind given one → Reads scale kind given other → one ≡ other
 
 -- there is one answer at most
 abbrev pub HasOne : {A E : Type 0} → (Result A E → Type 0) → Type 0
@@ -41,18 +41,16 @@ same_read one other ones others kinds entries rest =
     let first : one ≡ other = λ i. (kinds i, entries i) in
     λ i. Ok (first i ∷ rest i)
 
-same_fault : (one other : RuleFault) → one.cause ≡ other.cause → one.rule ≡ other.rule → one ≡ other
-same_fault one other cause rule = λ i. record { cause = cause i; rule = rule i }
-
 no_rule_refused : TablesAreOne → (scale : Scale) (number : ℕ) (rule : TableKind × Members) (rules : List (TableKind × Members)) → HasOne (ReadsRules scale (number + 1) rules) → (read : TableKind × Entries) (others : List (TableKind × Entries)) (fault : RuleFault) → ReadsRules scale number (rule ∷ rules) (Ok (read ∷ others)) → ReadsRules scale number (rule ∷ rules) (Err fault) → ⊥
-no_rule_refused tables scale number rule rules rest read others fault p (inl q) = value_or_cause (Reads scale rule.0 rule.1) (tables scale rule.0 rule.1) read.1 fault.cause p.1 q.0
+no_rule_refused tables scale number rule rules rest read others fault p (inl q) = value_or_cause (Reads scale rule.0 rule.1) (tables scale rule.0 rule.1) read.1 q.0 p.1 q.1
 no_rule_refused tables scale number rule rules rest read others fault p (inr q) = value_or_cause (ReadsRules scale (number + 1) rules) rest others fault p.2 q.2
 
 first_refused : TablesAreOne → (scale : Scale) (number : ℕ) (rule : TableKind × Members) (rules : List (TableKind × Members)) → HasOne (ReadsRules scale (number + 1) rules) → (one other : RuleFault) → ReadsRules scale number (rule ∷ rules) (Err one) → ReadsRules scale number (rule ∷ rules) (Err other) → one ≡ other
 first_refused tables scale number rule rules rest one other (inl p) (inl q) =
-    same_fault one other (one_cause (Reads scale rule.0 rule.1) (tables scale rule.0 rule.1) one.cause other.cause p.0 q.0) (p.1 ∙ sym q.1)
-first_refused tables scale number rule rules rest one other (inl p) (inr q) = absurd (value_or_cause (Reads scale rule.0 rule.1) (tables scale rule.0 rule.1) q.0 one.cause q.1 p.0)
-first_refused tables scale number rule rules rest one other (inr p) (inl q) = absurd (value_or_cause (Reads scale rule.0 rule.1) (tables scale rule.0 rule.1) p.0 other.cause p.1 q.0)
+    let same = one_cause (Reads scale rule.0 rule.1) (tables scale rule.0 rule.1) p.0 q.0 p.1 q.1 in
+    p.2 ∙ (ap (of_rule number) same ∙ sym q.2)
+first_refused tables scale number rule rules rest one other (inl p) (inr q) = absurd (value_or_cause (Reads scale rule.0 rule.1) (tables scale rule.0 rule.1) q.0 p.0 q.1 p.1)
+first_refused tables scale number rule rules rest one other (inr p) (inl q) = absurd (value_or_cause (Reads scale rule.0 rule.1) (tables scale rule.0 rule.1) p.0 q.0 p.1 q.1)
 first_refused tables scale number rule rules rest one other (inr p) (inr q) = one_cause (ReadsRules scale (number + 1) rules) rest one other p.2 q.2
 
 rules_step : TablesAreOne → (scale : Scale) (number : ℕ) (rule : TableKind × Members) (rules : List (TableKind × Members)) → HasOne (ReadsRules scale (number + 1) rules) → HasOne (ReadsRules scale number (rule ∷ rules))
@@ -89,7 +87,7 @@ tables_one tables format (Some given) one other (inr p) (inr q) = all_one tables
 format_one : TablesAreOne → (file format : Members) → HasOne (ReadsFormat file format)
 format_one tables file format one other (inl p) (inl q) =
     let same = one_cause (Reads (record { decimals = 0; form = Sec }) Format format) (tables (record { decimals = 0; form = Sec }) Format format) p.0 q.0 p.1 q.1 in
-    p.2 ∙ (ap (λ cause. Err (of_the_file cause)) same ∙ sym q.2)
+    p.2 ∙ (ap (λ cause. Err (of_the_file (cause_of_key cause))) same ∙ sym q.2)
 format_one tables file format one other (inl p) (inr q) = absurd (value_or_cause (Reads (record { decimals = 0; form = Sec }) Format format) (tables (record { decimals = 0; form = Sec }) Format format) q.0 p.0 q.1 p.1)
 format_one tables file format one other (inr p) (inl q) = absurd (value_or_cause (Reads (record { decimals = 0; form = Sec }) Format format) (tables (record { decimals = 0; form = Sec }) Format format) p.0 q.0 p.1 q.1)
 format_one tables file format one other (inr p) (inr q) =
@@ -136,8 +134,3 @@ file_one tables bytes one other (inl p) (inl q) = p.1 ∙ sym q.1
 file_one tables bytes one other (inl p) (inr q) = absurd (omega (arith, p.0, q.0))
 file_one tables bytes one other (inr p) (inl q) = absurd (omega (arith, p.0, q.0))
 file_one tables bytes one other (inr p) (inr q) = short_one tables bytes one other p.1 q.1
-
--- what is answered is all that the bytes can be read as
-pub only_that : (bytes : List ℕ) → ((given : List ℕ) (one other : Result Rules RuleFault) → ReadsFile given one → ReadsFile given other → one ≡ other) → (result : Result Rules RuleFault) → Tells (ReadsFile bytes) result → (answer : Result Rules RuleFault) → ReadsFile bytes answer → Tells (λ given. given ≡ answer) result
-only_that bytes law (Ok rules) is answer other = law bytes (Ok rules) answer is other
-only_that bytes law (Err fault) is answer other = λ some. law bytes (Err fault) answer (is some) other

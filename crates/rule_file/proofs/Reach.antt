@@ -11,8 +11,8 @@ use Rattle.rule_keys.specs.declared.key.TableKind.{TableKind}
 use Rattle.rule_keys.specs.declared.key.TableKind.TheVariants.{Speed, Drift}
 use Rattle.rule_keys.specs.declared.read.Scale.{Scale}
 use Rattle.rule_keys.specs.Keys.{checks_of}
-use Rattle.rule_keys.specs.Reading.{Passes}
-use Rattle.rule_keys.specs.Reading as Keys
+use Rattle.rule_keys.specs.Table.{Passes}
+use Rattle.rule_keys.specs.Table as Keys
 use Rattle.rule_file.specs.declared.fault.RuleFault.{RuleFault}
 use Rattle.rule_file.specs.declared.draft.Draft.{Draft}
 use Rattle.rule_file.specs.declared.rules.Format.{Format}

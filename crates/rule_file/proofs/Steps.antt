@@ -8,10 +8,12 @@ use Rattle.toml.proofs.Views.{items_view-drop}
 use Rattle.rule_keys.specs.declared.key.TableKind.{TableKind}
 use Rattle.rule_keys.specs.declared.key.TableKind.TheVariants.{Format}
 use Rattle.rule_keys.specs.declared.read.Scale.{Scale}
-use Rattle.rule_keys.specs.Reading.{Reads}
+use Rattle.rule_keys.specs.Table.{Reads}
 use Rattle.rule_file.specs.declared.fault.RuleFault.{RuleFault}
+use Rattle.rule_keys.specs.declared.cause.KeyCause.{KeyCause}
+use Rattle.rule_file.specs.Fault.{of_rule}
 use Rattle.rule_file.specs.Document.{kind_text, rule_tables, tables_in, tables_of, joined, ReadsRules}
-use Rattle.rule_file.specs.Continues.{Continues}
+use Rattle.rule_file.proofs.Continues.{Continues}
 use Rattle.rule_file.specs.Meaning.{Entries}
 use Rattle.rule_file.specs.Tables.{seen}
 use Rattle.rule_file.specs.declared.tables.RuleTable.{RuleTable}
@@ -138,8 +140,8 @@ read_step scale number rule left all front entries continues reads = record {
 }
 
 pub refused_here : (scale : Scale) (number : ℕ) (rule : TableKind × Members) (left all : Tables) (front : List (TableKind × Entries)) (fault : RuleFault)
-    → Continues scale number (rule ∷ left) front all → Reads scale rule.0 rule.1 (Err fault.cause) → fault.rule ≡ number → ReadsRules scale 1 all (Err fault)
-refused_here scale number rule left all front fault continues reads is = continues.refused fault (inl (reads, is))
+    → Continues scale number (rule ∷ left) front all → (cause : KeyCause) → Reads scale rule.0 rule.1 (Err cause) → fault ≡ of_rule number cause → ReadsRules scale 1 all (Err fault)
+refused_here scale number rule left all front fault continues cause reads is = continues.refused fault (inl (cause, reads, is))
 
 pub none_left : (scale : Scale) (number : ℕ) (all : Tables) (front : List (TableKind × Entries)) → Continues scale number [] front all → ReadsRules scale 1 all (Ok front)
 none_left scale number all front continues = rw append-nil at (continues.read [] refl)
@@ -164,11 +166,11 @@ each_step scale place tables rule front entries within is continues reads =
 
 pub each_stop : (scale : Scale) (place : ℕ) (tables : List RuleTable) (rule : RuleTable) (front : List (TableKind × Entries)) (fault : RuleFault)
     → place < length tables → rule ≡ get_or tables place rule → Continues scale (place + 1) (map seen (drop place tables)) front (map seen tables)
-    → Reads scale rule.kind (table_view rule.table.now) (Err fault.cause) → fault.rule ≡ place + 1
+    → (cause : KeyCause) → Reads scale rule.kind (table_view rule.table.now) (Err cause) → fault ≡ of_rule (place + 1) cause
     → ReadsRules scale 1 (map seen tables) (Err fault)
-each_stop scale place tables rule front fault within is continues reads number =
+each_stop scale place tables rule front fault within is continues cause reads number =
     refused_here scale (place + 1) (seen rule) (map seen (drop (place + 1) tables)) (map seen tables) front fault
-    (rw (seen_first tables place rule within is) at continues) reads number
+    (rw (seen_first tables place rule within is) at continues) cause reads number
 
 pub each_end : (scale : Scale) (place : ℕ) (tables : List RuleTable) (front : List (TableKind × Entries))
     → length tables ≤ place → Continues scale (place + 1) (map seen (drop place tables)) front (map seen tables)

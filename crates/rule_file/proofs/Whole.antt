@@ -1,15 +1,17 @@
 -- What a whole file is read as, from what its table is read as.
 use Rattle.std.proofs.Common.{◌≡◌, ℕ, ◌≤◌, List, length, Some, None, inr, subst}
 use Rattle.std.specs.Prelude.{Result, Ok, Err}
+use Rattle.words.specs.Answers.{UnlessMemory}
 use Rattle.toml.specs.Data.{Data, string, integer, float, boolean, datetime, array, table, Members, get_member, as_table}
-use Rattle.rule_keys.specs.declared.cause.RuleCause.TheVariants.{MissingKey, WrongKind}
+use Rattle.rule_file.specs.declared.fault.RuleCause.TheVariants.{MissingKey, WrongKind, Memory}
 use Rattle.rule_keys.specs.declared.key.TableKind.TheVariants.{Format}
-use Rattle.rule_keys.specs.Reading.{HasOnly}
+use Rattle.rule_keys.specs.Table.{HasOnly}
 use Rattle.rule_file.specs.declared.fault.RuleFault.{RuleFault}
 use Rattle.rule_file.specs.declared.rules.Rules.{Rules}
-use Rattle.rule_file.specs.Document.{kind_text, table_texts, of_the_file, ReadsFormat, ReadsWith, ReadsDocument}
-use Rattle.rule_file.specs.Reading.{longest, ReadsFile}
-use Rattle.rule_file.specs.Told.{Tells}
+use Rattle.rule_file.specs.Document.{kind_text, table_texts, ReadsFormat, ReadsWith, ReadsDocument}
+use Rattle.rule_file.specs.File.{ReadsFile}
+use Rattle.rule_file.specs.Fault.{of_the_file}
+use Rattle.rule_file.specs.declared.read.TheConstants.{LONGEST}
 use Rattle.rule_file.specs.Toml.{IsToml}
 
 pub no_format : (file : Members) (answer : Result Rules RuleFault) → HasOnly table_texts file → get_member (kind_text Format) file ≡ None
@@ -41,11 +43,9 @@ right_format file (array rows) format answer there reads = absurd (cc there)
 right_format file (table rows) format answer there reads = let same : format ≡ rows = cc there in subst (λ (m : Members). ReadsFormat file m answer) same reads
 
 pub a_table : (file : Members) (d : Data) (format : Members) (answer : Result Rules RuleFault) → HasOnly table_texts file → get_member (kind_text Format) file ≡ Some d
-    → as_table d ≡ Some format → Tells (ReadsFormat file format) answer → Tells (ReadsDocument file) answer
-a_table file d format (Ok rules) known there is told = inr (known, rw there (right_format file d format (Ok rules) is told))
-a_table file d format (Err fault) known there is told = λ other. inr (known, rw there (right_format file d format (Err fault) is (told other)))
+    → as_table d ≡ Some format → UnlessMemory (of_the_file Memory) (ReadsFormat file format) answer → UnlessMemory (of_the_file Memory) (ReadsDocument file) answer
+a_table file d format answer known there is reads = λ other. inr (known, rw there (right_format file d format answer is (reads other)))
 
-pub file_told : (bytes : List ℕ) (file : Members) (answer : Result Rules RuleFault) → length bytes ≤ longest → IsToml bytes file
-    → Tells (ReadsDocument file) answer → Tells (ReadsFile bytes) answer
-file_told bytes file (Ok rules) short is told = inr (short, inr (file, is, told))
-file_told bytes file (Err fault) short is told = λ other. inr (short, inr (file, is, told other))
+pub file_read : (bytes : List ℕ) (file : Members) (answer : Result Rules RuleFault) → length bytes ≤ LONGEST → IsToml bytes file
+    → UnlessMemory (of_the_file Memory) (ReadsDocument file) answer → UnlessMemory (of_the_file Memory) (ReadsFile bytes) answer
+file_read bytes file answer short is reads = λ other. inr (short, inr (file, is, reads other))

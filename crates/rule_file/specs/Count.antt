@@ -1,4 +1,4 @@
--- The number of rules.
+-- To be believed: the number of rules.
 use Rattle.std.specs.Prelude.{ℕ, ◌+◌, List, length}
 
 abbrev pub count_of : {A B C D E F G : Type 0} → List A → List B → List C → List D → List E → List F → List G → ℕ

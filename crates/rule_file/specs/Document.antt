@@ -1,15 +1,16 @@
--- What the table of a rule file is read as: its rules, or the first fault.
+-- To be believed: what the table of a rule file is read as: its rules, or the first fault.
 use Rattle.std.specs.Prelude.{◌≡◌, ◌⊎◌, ℕ, ◌+◌, ◌<◌, ◌≤◌, List, [], ◌∷◌, ◌++◌, length, map, Option, Some, None, Result, Ok, Err, codes, option_map}
 use Rattle.toml.specs.Data.{Data, array, table, Items, no_items, item, Members, get_member}
 use Rattle.time_text.specs.declared.form.TimeForm.TheVariants.{Sec}
-use Rattle.rule_keys.specs.declared.cause.RuleCause.{RuleCause}
-use Rattle.rule_keys.specs.declared.cause.RuleCause.TheVariants.{UnknownKey, MissingKey, WrongKind, TooMany}
+use Rattle.rule_keys.specs.declared.cause.KeyCause.{KeyCause}
+use Rattle.rule_file.specs.declared.fault.RuleCause.TheVariants.{UnknownKey, MissingKey, WrongKind, TooMany}
 use Rattle.rule_keys.specs.declared.key.TableKind.{TableKind}
 use Rattle.rule_keys.specs.declared.key.TableKind.TheVariants.{Format, Speed, Swing, Drift, Range, Trust, Weight, Between}
 use Rattle.rule_keys.specs.declared.read.Scale.{Scale}
-use Rattle.rule_keys.specs.Reading.{HasOnly, Reads}
+use Rattle.rule_keys.specs.Table.{HasOnly, Reads}
 use Rattle.rule_file.specs.declared.fault.RuleFault.{RuleFault}
 use Rattle.rule_file.specs.declared.rules.Rules.{Rules}
+use Rattle.rule_file.specs.Fault.{cause_of_key, of_the_file, of_rule}
 use Rattle.rule_file.specs.Meaning.{Entries, scale_of, IsFormatOf, AreRulesOf}
 
 abbrev pub kind_text : TableKind → List ℕ
@@ -29,10 +30,6 @@ rule_kinds = Speed ∷ Swing ∷ Drift ∷ Range ∷ Trust ∷ Weight ∷ Betwee
 -- the keys at the top of a file
 abbrev pub table_texts : List (List ℕ)
 table_texts = map kind_text (Format ∷ rule_kinds)
-
--- a fault of no numbered rule
-abbrev pub of_the_file : RuleCause → RuleFault
-of_the_file cause = record { cause = cause; rule = 0 }
 
 -- the tables of an array, each with its kind, and none where a member is no table
 abbrev pub tables_in : TableKind → Items → Option (List (TableKind × Members))
@@ -64,7 +61,7 @@ ReadsRules scale number (rule ∷ rules) (Ok []) = ⊥
 ReadsRules scale number (rule ∷ rules) (Ok (read ∷ others)) =
     (read.0 ≡ rule.0) × Reads scale rule.0 rule.1 (Ok read.1) × ReadsRules scale (number + 1) rules (Ok others)
 ReadsRules scale number (rule ∷ rules) (Err fault) =
-    (Reads scale rule.0 rule.1 (Err fault.cause) × (fault.rule ≡ number))
+    ((cause : KeyCause) × Reads scale rule.0 rule.1 (Err cause) × (fault ≡ of_rule number cause))
     ⊎ ((read : Entries) × Reads scale rule.0 rule.1 (Ok read) × ReadsRules scale (number + 1) rules (Err fault))
 
 -- the rules with their format
@@ -83,7 +80,7 @@ ReadsTables format (Some tables) answer =
 -- the format, which speaks of no values and times, and then the rules
 abbrev pub ReadsFormat : Members → Members → Result Rules RuleFault → Type 0
 ReadsFormat file format answer =
-    ((cause : RuleCause) × Reads (record { decimals = 0; form = Sec }) Format format (Err cause) × (answer ≡ Err (of_the_file cause)))
+    ((cause : KeyCause) × Reads (record { decimals = 0; form = Sec }) Format format (Err cause) × (answer ≡ Err (of_the_file (cause_of_key cause))))
     ⊎ ((read : Entries) × Reads (record { decimals = 0; form = Sec }) Format format (Ok read) × ReadsTables read (rule_tables rule_kinds file) answer)
 
 abbrev pub ReadsWith : Members → Option Data → Result Rules RuleFault → Type 0

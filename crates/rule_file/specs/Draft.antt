@@ -1,11 +1,11 @@
--- The rules of a rule file, while its tables are read.
+-- For proofs: the rules of a rule file, while its tables are read.
 use Rattle.std.specs.Prelude.{ℕ, List, [], ◌∷◌, ◌++◌, Ok}
 use Rattle.std.specs.List.{AllZip}
 use Rattle.toml.specs.Data.{Members}
 use Rattle.rule_keys.specs.declared.key.TableKind.{TableKind}
 use Rattle.rule_keys.specs.declared.key.TableKind.TheVariants as table
 use Rattle.rule_keys.specs.declared.read.Scale.{Scale}
-use Rattle.rule_keys.specs.Reading.{Reads}
+use Rattle.rule_keys.specs.Table.{Reads}
 use Rattle.rule_file.specs.declared.draft.Draft.{Draft}
 use Rattle.rule_file.specs.Count.{count_of}
 use Rattle.rule_file.specs.Meaning.{Entries, of_kind, IsSpeed, IsSwing, IsDrift, IsRange, IsTrust, IsWeight, IsBetween}

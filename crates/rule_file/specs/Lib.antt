@@ -1,10 +1,9 @@
 pub mod Count
-pub mod Limits
-pub mod Continues
-pub mod Draft
 pub mod Document
+pub mod Draft
+pub mod Fault
+pub mod File
+pub mod Limits
 pub mod Meaning
-pub mod Reading
 pub mod Tables
-pub mod Told
 pub mod Toml

@@ -1,4 +1,4 @@
--- The limits that the rules keep.
+-- To be believed: the limits that the rules keep.
 use Rattle.std.specs.Prelude.{◌≡◌, ℕ, ◌*◌, ◌^◌, ◌≤◌, ℤ, pos, neg_ℤ, ◌≤ℤ◌, Bool, ◌||◌, ◌==◌, IsTrue, unsigned_abs}
 use Rattle.fix_point.specs.declared.rate.Rate.{Rate}
 

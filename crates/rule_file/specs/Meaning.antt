@@ -1,4 +1,4 @@
--- What the entries of a table mean as a rule.
+-- To be believed: what the entries of a table mean as a rule.
 use Rattle.std.specs.Prelude.{◌≡◌, ℕ, zero, suc, pos, ◌==◌, List, map, filter, Some, unsigned_abs}
 use Rattle.std.specs.List.{AllZip}
 use Rattle.fix_point.specs.declared.rate.Rate.{Rate}

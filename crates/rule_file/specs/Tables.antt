@@ -1,4 +1,4 @@
--- The tables of rules without where they lie in memory.
+-- For proofs: the tables of rules without where they lie in memory.
 use Rattle.toml.specs.Data.{Members}
 use Rattle.toml.specs.View.{table_view}
 use Rattle.rule_keys.specs.declared.key.TableKind.{TableKind}

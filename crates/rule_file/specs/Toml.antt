@@ -1,4 +1,4 @@
--- Which bytes are a TOML document, and of which table: as the crate `toml` states it.
+-- To be believed: which bytes are a TOML document, and of which table: as the crate `toml` states it.
 use Rattle.std.specs.Prelude.{◌≡◌, ℕ, List, Some, IsUtf8}
 use Rattle.toml.specs.Data.{Members}
 use Rattle.toml.specs.Parse.{parse_document}

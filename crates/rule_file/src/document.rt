@@ -1,18 +1,19 @@
 //! The table of a rule file.
-ghost use Rattle.std.specs.Prelude.{◌≡◌, ◌≤◌, length, map};
+ghost use Rattle.std.specs.Prelude.{◌≤◌, length, map};
 ghost use Rattle.toml.specs.View.{table_view};
+ghost use Rattle.words.specs.Answers.{UnlessMemory};
 ghost use Rattle.rule_keys.specs.Entries.{Fit};
 ghost use Rattle.rule_keys.specs.Keys.{keys_of};
 ghost use Rattle.rule_file.specs.Document.{rule_kinds, rule_tables, ReadsAll, ReadsDocument, ReadsFormat, ReadsTables};
+ghost use Rattle.rule_file.specs.Fault.{of_the_file};
 ghost use Rattle.rule_file.specs.Tables.{seen};
-ghost use Rattle.rule_file.specs.Told.{Tells};
 
 use crate::each::read_each;
-use crate::fault::{RuleFault, of_the_file};
+use crate::fault::{RuleCause, RuleFault};
 use crate::format::{format_from, scale_of};
 use crate::rules::Rules;
 use crate::tables::{RuleTable, has_known_keys, key_of, rule_tables};
-use rule_keys::{Entries, RuleCause, Scale, TableKind, read_table};
+use rule_keys::{Entries, Scale, TableKind, read_table};
 use std::alloc::Global;
 use time_text::TimeForm;
 use toml::Table;
@@ -28,38 +29,38 @@ const NO_SCALE: Scale = Scale {
 
 /// The rules of the table of a file.
 pub(crate) fn document_rules(alloc: Global, file: &Table) -> Result<Rules, RuleFault>
-    ensures { Tells (ReadsDocument (table_view file.now)) result }
+    ensures { UnlessMemory (of_the_file RuleCause.Memory) (ReadsDocument (table_view file.now)) result }
 {
     if !has_known_keys(file) {
-        return Err(of_the_file(RuleCause::UnknownKey));
+        return Err(RuleFault::of_the_file(RuleCause::UnknownKey));
     }
     let Some(value) = file.get(key_of(TableKind::Format)) else {
-        return Err(of_the_file(RuleCause::MissingKey));
+        return Err(RuleFault::of_the_file(RuleCause::MissingKey));
     };
     match value.as_table() {
         Some(format) => formatted_rules(alloc, file, format),
-        None => Err(of_the_file(RuleCause::WrongKind)),
+        None => Err(RuleFault::of_the_file(RuleCause::WrongKind)),
     }
 }
 
 /// The rules of a file that has this table of the format.
 fn formatted_rules(alloc: Global, file: &Table, format: &Table) -> Result<Rules, RuleFault>
-    ensures { Tells (ReadsFormat (table_view file.now) (table_view format.now)) result }
+    ensures { UnlessMemory (of_the_file RuleCause.Memory) (ReadsFormat (table_view file.now) (table_view format.now)) result }
 {
     match read_table(alloc, NO_SCALE, TableKind::Format, format) {
         Ok(entries) => scaled_rules(alloc, file, &entries),
-        Err(cause) => Err(of_the_file(cause)),
+        Err(cause) => Err(RuleFault::of_the_file(RuleCause::of_key(cause))),
     }
 }
 
 /// The rules of a file that has a format of these entries.
 fn scaled_rules(alloc: Global, file: &Table, format: &Entries<'_>) -> Result<Rules, RuleFault>
     requires { Fit (keys_of TableKind.Format) format.now }
-    ensures { Tells (ReadsTables format.now (rule_tables rule_kinds (table_view file.now))) result }
+    ensures { UnlessMemory (of_the_file RuleCause.Memory) (ReadsTables format.now (rule_tables rule_kinds (table_view file.now))) result }
 {
     let tables = rule_tables(alloc, file)?;
     if tables.len() > MOST_RULES {
-        return Err(of_the_file(RuleCause::TooMany));
+        return Err(RuleFault::of_the_file(RuleCause::TooMany));
     }
     numbered_rules(alloc, format, tables.as_slice())
 }
@@ -72,10 +73,10 @@ fn numbered_rules(
 ) -> Result<Rules, RuleFault>
     requires fit { Fit (keys_of TableKind.Format) format.now }
     requires few { length tables.now ≤ 1000 }
-    ensures { Tells (ReadsAll format.now (map seen tables.now)) result }
+    ensures { UnlessMemory (of_the_file RuleCause.Memory) (ReadsAll format.now (map seen tables.now)) result }
 {
     let Ok(format) = format_from(alloc, format) else {
-        return Err(of_the_file(RuleCause::Memory));
+        return Err(RuleFault::of_the_file(RuleCause::Memory));
     };
     let draft = read_each(alloc, scale_of(&format), tables)?;
     Ok(Rules {

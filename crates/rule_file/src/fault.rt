@@ -1,8 +1,72 @@
+//! Why a rule file is refused, and the rule that is to blame.
 ghost use Rattle.std.specs.Prelude.{◌≡◌};
-ghost use Rattle.rule_file.specs.Document.{of_the_file};
+ghost use Rattle.rule_file.specs.Fault.{blamed, cause_of_key, of_rule, of_the_file};
 
-use rule_keys::RuleCause;
+use rule_keys::KeyCause;
 use thiserror::Error;
+
+/// Why a rule file is refused.
+#[derive(Clone, Copy, Debug, PartialEq, Eq, Error)]
+pub enum RuleCause {
+    /// The rules are of a kind that the program does not work with so far. No reader answers it.
+    #[error("the rules are of a kind that is not built so far")]
+    NotBuilt,
+    /// The bytes are no TOML text.
+    #[error("the rules are no TOML text")]
+    Syntax,
+    /// A table has a key that it may not have.
+    #[error("a key is unknown")]
+    UnknownKey,
+    /// A table lacks a key that it must have.
+    #[error("a key is missing")]
+    MissingKey,
+    /// What stands at a key is of another kind than it must be.
+    #[error("an entry is of the wrong kind")]
+    WrongKind,
+    /// What stands at a key is no number or time in range, or a finer one than is kept.
+    #[error("an entry is no number in range")]
+    BadNumber,
+    /// What should be the less of two is the greater.
+    #[error("two entries are in the wrong order")]
+    Order,
+    /// A rate allows more than 4·10^15 units within the window.
+    #[error("a rate reaches too far within the window")]
+    ReachTooLarge,
+    /// A number is beyond its limits, or a word is not in its list.
+    #[error("an entry is beyond its limits")]
+    OutOfLimit,
+    /// There are more than 1,000 rules.
+    #[error("there are more than 1,000 rules")]
+    TooMany,
+    /// Two sensors that must differ have the same name.
+    #[error("both sensors are the same")]
+    SameSensor,
+    /// There are more than 1,048,576 bytes.
+    #[error("the rule file is longer than 1,048,576 bytes")]
+    FileTooLong,
+    /// Memory ran out.
+    #[error("memory ran out")]
+    Memory,
+}
+
+impl RuleCause {
+    /// Why a file is refused that has a table which is refused.
+    pub(crate) fn of_key(cause: KeyCause) -> RuleCause
+        ensures { result ≡ cause_of_key cause }
+    {
+        match cause {
+            KeyCause::UnknownKey => RuleCause::UnknownKey,
+            KeyCause::MissingKey => RuleCause::MissingKey,
+            KeyCause::WrongKind => RuleCause::WrongKind,
+            KeyCause::BadNumber => RuleCause::BadNumber,
+            KeyCause::OutOfLimit => RuleCause::OutOfLimit,
+            KeyCause::Order => RuleCause::Order,
+            KeyCause::ReachTooLarge => RuleCause::ReachTooLarge,
+            KeyCause::SameSensor => RuleCause::SameSensor,
+            KeyCause::Memory => RuleCause::Memory,
+        }
+    }
+}
 
 /// A rule file that is refused.
 #[derive(Clone, Copy, Debug, PartialEq, Eq, Error)]
@@ -14,9 +78,38 @@ pub struct RuleFault {
     pub rule: u32,
 }
 
-/// A fault of no numbered rule.
-pub(crate) fn of_the_file(cause: RuleCause) -> RuleFault
-    ensures { result ≡ of_the_file cause }
+impl RuleFault {
+    /// A fault of no numbered rule.
+    pub fn of_the_file(cause: RuleCause) -> RuleFault
+        ensures { result ≡ of_the_file cause }
+    {
+        RuleFault { cause, rule: 0 }
+    }
+
+    /// The fault of a file whose rule of this number is refused.
+    pub(crate) fn of_rule(number: u32, cause: KeyCause) -> RuleFault
+        ensures { result ≡ of_rule number cause }
+    {
+        RuleFault {
+            cause: RuleCause::of_key(cause),
+            rule: blamed(number, cause),
+        }
+    }
+}
+
+/// The rule that is to blame where the rule of this number is refused: none where memory ran out.
+fn blamed(number: u32, cause: KeyCause) -> u32
+    ensures { result ≡ blamed number cause }
 {
-    RuleFault { cause, rule: 0 }
+    match cause {
+        KeyCause::Memory => 0,
+        KeyCause::UnknownKey
+        | KeyCause::MissingKey
+        | KeyCause::WrongKind
+        | KeyCause::BadNumber
+        | KeyCause::OutOfLimit
+        | KeyCause::Order
+        | KeyCause::ReachTooLarge
+        | KeyCause::SameSensor => number,
+    }
 }

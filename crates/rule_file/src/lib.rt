@@ -16,9 +16,8 @@ mod tables;
 mod tests;
 mod typed;
 
-pub use fault::RuleFault;
+pub use fault::{RuleCause, RuleFault};
 pub use read::{LONGEST, one_answer, read_rules};
-pub use rule_keys::RuleCause;
 pub use rules::{
     BetweenList, BetweenRule, DriftList, DriftRule, Format, Name, RangeList, RangeRule, Rules,
     SpeedList, SpeedRule, SwingList, SwingRule, TrustList, TrustRule, WeightList, WeightRule,

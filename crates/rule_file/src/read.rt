@@ -1,12 +1,12 @@
 //! The bytes of a rule file.
 ghost use Rattle.std.specs.Prelude.{◌≡◌, ◌≢◌, List, ℕ, Result, IfOk, IfErr};
-ghost use Rattle.rule_file.specs.Reading.{ReadsFile, Spells, Refuses};
-ghost use Rattle.rule_file.specs.Told.{Tells};
+ghost use Rattle.words.specs.Answers.{UnlessMemory};
+ghost use Rattle.rule_file.specs.Fault.{of_the_file};
+ghost use Rattle.rule_file.specs.File.{ReadsFile, Spells, Refuses};
 
 use crate::document::document_rules;
-use crate::fault::{RuleFault, of_the_file};
+use crate::fault::{RuleCause, RuleFault};
 use crate::rules::Rules;
-use rule_keys::RuleCause;
 use std::alloc::Global;
 
 /// The greatest number of bytes of a rule file.
@@ -25,8 +25,9 @@ pub const LONGEST: usize = 1_048_576;
 /// time.
 pub fn read_rules(alloc: Global, bytes: &[u8]) -> Result<Rules, RuleFault>
     ensures accepted { IfOk result (Spells bytes.now) }
-    ensures refused { IfErr result (λ fault. fault.cause ≢ RuleCause.Memory → Refuses bytes.now fault) }
-    ensures only { (answer : Result Rules RuleFault) → ReadsFile bytes.now answer → Tells (λ given. given ≡ answer) result }
+    ensures refused { IfErr result (λ fault. fault ≢ of_the_file RuleCause.Memory → Refuses bytes.now fault) }
+    ensures only { (answer : Result Rules RuleFault) → ReadsFile bytes.now answer →
+        UnlessMemory (of_the_file RuleCause.Memory) (λ given. given ≡ answer) result }
 {
     // The law behind `only`; it does nothing.
     one_answer();
@@ -35,15 +36,15 @@ pub fn read_rules(alloc: Global, bytes: &[u8]) -> Result<Rules, RuleFault>
 
 /// What the bytes are read as.
 fn file_rules(alloc: Global, bytes: &[u8]) -> Result<Rules, RuleFault>
-    ensures { Tells (ReadsFile bytes.now) result }
+    ensures { UnlessMemory (of_the_file RuleCause.Memory) (ReadsFile bytes.now) result }
 {
     if bytes.len() > LONGEST {
-        return Err(of_the_file(RuleCause::FileTooLong));
+        return Err(RuleFault::of_the_file(RuleCause::FileTooLong));
     }
     match toml::table_from_slice(alloc, bytes) {
         Ok(file) => document_rules(alloc, &file),
-        Err(fault) if fault.is_memory() => Err(of_the_file(RuleCause::Memory)),
-        Err(_) => Err(of_the_file(RuleCause::Syntax)),
+        Err(fault) if fault.is_memory() => Err(RuleFault::of_the_file(RuleCause::Memory)),
+        Err(_) => Err(RuleFault::of_the_file(RuleCause::Syntax)),
     }
 }
 

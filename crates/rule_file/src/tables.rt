@@ -3,12 +3,13 @@ ghost use Rattle.std.specs.Prelude.{◌≡◌, ◌≢◌, ◌↔◌, Some, None,
 ghost use Rattle.std.specs.List.{list_any};
 ghost use Rattle.std.specs.Str.{bytes_eq};
 ghost use Rattle.toml.specs.View.{view, items_view, table_view};
-ghost use Rattle.rule_keys.specs.Reading.{HasOnly};
-ghost use Rattle.rule_file.specs.Document.{kind_text, rule_kinds, table_texts, of_the_file, tables_in, tables_of, rule_tables, joined};
+ghost use Rattle.rule_keys.specs.Table.{HasOnly};
+ghost use Rattle.rule_file.specs.Document.{kind_text, rule_kinds, table_texts, tables_in, tables_of, rule_tables, joined};
+ghost use Rattle.rule_file.specs.Fault.{of_the_file};
 ghost use Rattle.rule_file.specs.Tables.{seen};
 
-use crate::fault::{RuleFault, of_the_file};
-use rule_keys::{RuleCause, TableKind};
+use crate::fault::{RuleCause, RuleFault};
+use rule_keys::TableKind;
 use std::alloc::Global;
 use toml::{Table, Value};
 
@@ -26,7 +27,9 @@ const RULE_KINDS: [TableKind; 7] = [
 /// The table of a rule.
 #[derive(Clone, Copy)]
 pub(crate) struct RuleTable<'a> {
+    /// What kind of rule it is.
     pub(crate) kind: TableKind,
+    /// Its keys.
     pub(crate) table: &'a Table,
 }
 
@@ -82,8 +85,8 @@ pub(crate) fn has_known_keys(file: &Table) -> bool
 /// The tables of all rules, in the order of their numbers.
 pub(crate) fn rule_tables(alloc: Global, file: &Table) -> Result<Vec<RuleTable<'_>>, RuleFault>
     ensures found { IfOk result (λ tables. rule_tables rule_kinds (table_view file.now) ≡ Some (map seen tables.items)) }
-    ensures refused { IfErr result (λ fault. fault.cause ≢ RuleCause.Memory → fault ≡ of_the_file RuleCause.WrongKind) }
-    ensures none { IfErr result (λ fault. fault.cause ≢ RuleCause.Memory → rule_tables rule_kinds (table_view file.now) ≡ None) }
+    ensures refused { IfErr result (λ fault. fault ≢ of_the_file RuleCause.Memory → fault ≡ of_the_file RuleCause.WrongKind) }
+    ensures none { IfErr result (λ fault. fault ≢ of_the_file RuleCause.Memory → rule_tables rule_kinds (table_view file.now) ≡ None) }
 {
     let mut tables = Vec::new(alloc);
     for kind in RULE_KINDS {
@@ -99,15 +102,15 @@ fn push_tables<'a>(
     value: Option<&'a Value>,
 ) -> Result<(), RuleFault>
     ensures found { OnOk result (joined (Some (map seen tables.old.items)) (tables_of kind (option_map (λ v. view v.now) value.entry)) ≡ Some (map seen tables.new.items)) }
-    ensures refused { IfErr result (λ fault. fault.cause ≢ RuleCause.Memory → fault ≡ of_the_file RuleCause.WrongKind) }
-    ensures none { IfErr result (λ fault. fault.cause ≢ RuleCause.Memory → tables_of kind (option_map (λ v. view v.now) value.entry) ≡ None) }
+    ensures refused { IfErr result (λ fault. fault ≢ of_the_file RuleCause.Memory → fault ≡ of_the_file RuleCause.WrongKind) }
+    ensures none { IfErr result (λ fault. fault ≢ of_the_file RuleCause.Memory → tables_of kind (option_map (λ v. view v.now) value.entry) ≡ None) }
 {
     let Some(value) = value else {
         return Ok(());
     };
     match value.as_array() {
         Some(members) => push_members(tables, kind, members.as_slice()),
-        None => Err(of_the_file(RuleCause::WrongKind)),
+        None => Err(RuleFault::of_the_file(RuleCause::WrongKind)),
     }
 }
 
@@ -118,15 +121,15 @@ fn push_members<'a>(
     members: &'a [Value],
 ) -> Result<(), RuleFault>
     ensures found { OnOk result (joined (Some (map seen tables.old.items)) (tables_in kind (items_view members.now)) ≡ Some (map seen tables.new.items)) }
-    ensures refused { IfErr result (λ fault. fault.cause ≢ RuleCause.Memory → fault ≡ of_the_file RuleCause.WrongKind) }
-    ensures none { IfErr result (λ fault. fault.cause ≢ RuleCause.Memory → tables_in kind (items_view members.now) ≡ None) }
+    ensures refused { IfErr result (λ fault. fault ≢ of_the_file RuleCause.Memory → fault ≡ of_the_file RuleCause.WrongKind) }
+    ensures none { IfErr result (λ fault. fault ≢ of_the_file RuleCause.Memory → tables_in kind (items_view members.now) ≡ None) }
 {
     for member in members {
         let Some(table) = member.as_table() else {
-            return Err(of_the_file(RuleCause::WrongKind));
+            return Err(RuleFault::of_the_file(RuleCause::WrongKind));
         };
         let pushed = tables.push(RuleTable { kind, table });
-        pushed.map_err(|_| of_the_file(RuleCause::Memory))?;
+        pushed.map_err(|_| RuleFault::of_the_file(RuleCause::Memory))?;
     }
     Ok(())
 }

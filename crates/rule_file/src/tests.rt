@@ -141,6 +141,7 @@ fn fault_of(alloc: Global, text: &str) -> Option<RuleFault> {
     read_rules(alloc, text.as_bytes()).err()
 }
 
+/// The fault of the rule of this number.
 fn fault(cause: RuleCause, rule: u32) -> Option<RuleFault> {
     Some(RuleFault { cause, rule })
 }
@@ -220,6 +221,7 @@ fn between_at(rules: &Rules, place: usize) -> Option<(&[u8], &[u8], i64, i64)> {
     Some((rule.first.bytes(), rule.second.bytes(), rule.min, rule.max))
 }
 
+/// A file of one rule.
 #[test]
 fn a_speed_rule(rt: HostRuntime) -> Result<(), Fail> {
     let rules = read_rules(rt.alloc(), BASE.as_bytes())?;
@@ -235,15 +237,7 @@ fn a_speed_rule(rt: HostRuntime) -> Result<(), Fail> {
     Ok(())
 }
 
-#[test]
-fn a_rate_with_decimals(rt: HostRuntime) -> Result<(), Fail> {
-    let text = changed(rt.alloc(), BASE, "max = 1", "max = \"0.5\"")?;
-    let rules = read_rules(rt.alloc(), text.as_bytes())?;
-    let speed = (b"x".as_slice(), -1_000_000, 500_000, 1, 10_000_000_000);
-    assert_eq!(rt; speed_at(&rules, 0), Some(speed));
-    Ok(())
-}
-
+/// Values, rates and times as the format counts them.
 #[test]
 fn rules_of_a_fuel_tank(rt: HostRuntime) -> Result<(), Fail> {
     let rules = read_rules(rt.alloc(), FUEL.as_bytes())?;
@@ -259,6 +253,7 @@ fn rules_of_a_fuel_tank(rt: HostRuntime) -> Result<(), Fail> {
     Ok(())
 }
 
+/// The example of `docs/FORMATS.md`.
 #[test]
 fn rules_of_a_water_tank(rt: HostRuntime) -> Result<(), Fail> {
     let rules = read_rules(rt.alloc(), TANK.as_bytes())?;
@@ -277,6 +272,7 @@ fn rules_of_a_water_tank(rt: HostRuntime) -> Result<(), Fail> {
     Ok(())
 }
 
+/// Rules of all kinds.
 #[test]
 fn rules_of_all_kinds(rt: HostRuntime) -> Result<(), Fail> {
     let rules = read_rules(rt.alloc(), MIXED.as_bytes())?;
@@ -299,6 +295,7 @@ fn rules_of_all_kinds(rt: HostRuntime) -> Result<(), Fail> {
     Ok(())
 }
 
+/// The rule that is to blame, of each kind.
 #[test]
 fn rules_are_numbered_kind_by_kind(rt: HostRuntime) -> Result<(), Fail> {
     let rows = [
@@ -326,6 +323,7 @@ fn rules_are_numbered_kind_by_kind(rt: HostRuntime) -> Result<(), Fail> {
     Ok(())
 }
 
+/// A file for each cause: no refusal is told as want of memory.
 #[test]
 fn each_cause_once(rt: HostRuntime) -> Result<(), Fail> {
     let rows = [
@@ -338,6 +336,10 @@ fn each_cause_once(rt: HostRuntime) -> Result<(), Fail> {
         (BASE, FAR, ReachTooLarge, 1),
         (BASE, WEIGHTLESS, OutOfLimit, 2),
         (BASE, SAME, SameSensor, 1),
+        ("[format]", "[[format]]", WrongKind, 0),
+        ("decimals = 0", "decimals = 7", OutOfLimit, 0),
+        ("[format]", "zone = 1\n[format]", UnknownKey, 0),
+        (BASE, "", MissingKey, 0),
     ];
     for (part, other, cause, rule) in rows {
         let text = changed(rt.alloc(), BASE, part, other)?;
@@ -357,65 +359,7 @@ fn each_cause_once(rt: HostRuntime) -> Result<(), Fail> {
     Ok(())
 }
 
-#[test]
-fn faults_of_the_file_have_rule_0(rt: HostRuntime) -> Result<(), Fail> {
-    let rows = [
-        ("[format]", "[[format]]", WrongKind),
-        ("decimals = 0", "decimals = 7", OutOfLimit),
-        (BASE, "", MissingKey),
-    ];
-    for (part, other, cause) in rows {
-        let text = changed(rt.alloc(), BASE, part, other)?;
-        assert_eq!(rt;
-            fault_of(rt.alloc(), text.as_str()),
-            fault(cause, 0),
-            "{other}"
-        );
-    }
-    // No UTF-8.
-    assert_eq!(rt; read_rules(rt.alloc(), &[0xFF]).err(), fault(Syntax, 0));
-    Ok(())
-}
-
-#[test]
-fn the_first_of_two_faults(rt: HostRuntime) {
-    let rows = [
-        ("zone = 1\n[format]\ndecimals = 7\n", UnknownKey, 0),
-        ("[format]\ndecimals = 7\n[zone]\n", UnknownKey, 0),
-        ("speed = 1\n[format]\ndecimals = 7\n", OutOfLimit, 0),
-        ("[format]\ndecimals = 7\n[speed]\n", OutOfLimit, 0),
-        (
-            "speed = [1]\n[format]\ndecimals = 0\n[[trust]]\n",
-            WrongKind,
-            0,
-        ),
-        ("[format]\ndecimals = 0\n[[trust]]\n[range]\n", WrongKind, 0),
-        (
-            "[format]\ndecimals = 0\n[[swing]]\n[[range]]\nzone = 1\n",
-            MissingKey,
-            1,
-        ),
-        (
-            "[format]\ndecimals = 0\n[[range]]\nzone = 1\n[[swing]]\n",
-            MissingKey,
-            1,
-        ),
-        (
-            "[format]\ndecimals = 0\n[[range]]\n[[range]]\nzone = 1\n",
-            MissingKey,
-            1,
-        ),
-        (
-            "[format]\ndecimals = 0\n[[range]]\nzone = 1\n[[range]]\n",
-            UnknownKey,
-            1,
-        ),
-    ];
-    for (text, cause, rule) in rows {
-        assert_eq!(rt; fault_of(rt.alloc(), text), fault(cause, rule), "{text}");
-    }
-}
-
+/// As many rules as there may be.
 #[test]
 fn a_thousand_rules_are_read(rt: HostRuntime) -> Result<(), Fail> {
     let text = a_thousand_rules_and(rt.alloc(), "")?;
@@ -423,6 +367,7 @@ fn a_thousand_rules_are_read(rt: HostRuntime) -> Result<(), Fail> {
     Ok(())
 }
 
+/// As many bytes as there may be.
 #[test]
 fn a_file_of_the_greatest_length_is_read(rt: HostRuntime) -> Result<(), Fail> {
     let bytes = base_of_length(rt.alloc(), 1_048_576)?;

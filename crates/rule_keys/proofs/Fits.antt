@@ -6,7 +6,7 @@ use Rattle.std.specs.List.{AllByRecursion}
 use Rattle.fix_point.specs.Grammar.{Sign, none, plus, minus}
 use Rattle.fix_point.specs.Scaled.{IsScaled, signed}
 use Rattle.fix_point.specs.declared.scale.Extra.TheVariants.{Refuse}
-use Rattle.time_text.specs.Ticks.{IsTicks}
+use Rattle.time_text.specs.Ticks.{Spells}
 use Rattle.time_text.specs.Trimmed.{trimmed}
 use Rattle.time_text.specs.declared.form.TimeForm.{TimeForm}
 use Rattle.time_text.specs.declared.form.TimeForm.TheVariants.{Sec, Milli, Micro, Nano, Instant, Civil}
@@ -24,7 +24,7 @@ use Rattle.rule_keys.specs.declared.key.Key.{Key}
 use Rattle.rule_keys.specs.declared.read.Scale.{Scale}
 use Rattle.rule_keys.specs.Entries.{Meaning, number, name, no_name, is_same_key, meaning_at, number_at, number_in, IsWithin, IsOfKind, Fit}
 use Rattle.rule_keys.specs.Keys.{keys_of, checks_of}
-use Rattle.rule_keys.specs.Reading.{ReadsAbsent, ReadsFound, ReadsKeys}
+use Rattle.rule_keys.specs.Table.{ReadsAbsent, ReadsFound, ReadsKeys}
 use Rattle.rule_keys.specs.Values.{IsWordAt, ReadsWhole, ReadsScaled, ReadsMoment, ReadsWord, ReadsName, ReadsValue, ReadsInteger}
 use Rattle.rule_keys.specs.Within.{HasSmallNumbers}
 use Rattle.rule_keys.specs.Words.{words}
@@ -69,7 +69,7 @@ units_within d n (datetime t) z reads = cc
 units_within d n (array items) z reads = cc
 units_within d n (table _) z reads = cc
 
-time_within : (form : TimeForm) (text : List ℕ) (z : ℤ) → IsTicks form text z → IsWithin (neg_ℤ (pos (9 * 10 ^ 18))) (pos (9 * 10 ^ 18)) (number z)
+time_within : (form : TimeForm) (text : List ℕ) (z : ℤ) → Spells form text z → IsWithin (neg_ℤ (pos (9 * 10 ^ 18))) (pos (9 * 10 ^ 18)) (number z)
 time_within Sec text z is = scaled_within (trimmed text) 9 (9 * 10 ^ 18) z is
 time_within Milli text z is = scaled_within (trimmed text) 6 (9 * 10 ^ 18) z is
 time_within Micro text z is = scaled_within (trimmed text) 3 (9 * 10 ^ 18) z is

@@ -3,8 +3,8 @@ use Rattle.std.proofs.Common.{◌≡◌, ℕ, ◌+◌, ◌<◌, ◌≤◌, pos, 
 use Rattle.std.proofs.lemmas.List.{append-nil, drop_all, drop_more, map-append}
 use Rattle.std.specs.List.{AllByRecursion}
 use Rattle.toml.specs.Data.{Members}
-use Rattle.rule_keys.specs.declared.cause.RuleCause.{RuleCause}
-use Rattle.rule_keys.specs.declared.cause.RuleCause.TheVariants.{UnknownKey}
+use Rattle.rule_keys.specs.declared.cause.KeyCause.{KeyCause}
+use Rattle.rule_keys.specs.declared.cause.KeyCause.TheVariants.{UnknownKey}
 use Rattle.rule_keys.specs.declared.key.TableKind.{TableKind}
 use Rattle.rule_keys.specs.declared.key.KeyName.{KeyName}
 use Rattle.rule_keys.specs.declared.key.KeyName.TheVariants.{Decimals}
@@ -18,12 +18,12 @@ use Rattle.rule_keys.specs.declared.key.Key.{Key}
 use Rattle.rule_keys.specs.declared.read.Scale.{Scale}
 use Rattle.rule_keys.specs.Entries.{Meaning}
 use Rattle.rule_keys.specs.Keys.{keys_of, checks_of}
-use Rattle.rule_keys.specs.Reading.{Told, HasOnly, ReadsKey, ReadsKeys, Passes, Fails, Reads, cause_of}
+use Rattle.rule_keys.specs.Table.{HasOnly, ReadsKey, ReadsKeys, Passes, Fails, Reads, cause_of}
 use Rattle.rule_keys.specs.Within.{HasSmallNumbers}
 use Rattle.rule_keys.proofs.Known.{texts}
 
 abbrev pub Answer : Type 0
-Answer = Result (List (KeyName × Meaning)) RuleCause
+Answer = Result (List (KeyName × Meaning)) KeyCause
 
 -- the whole answer, of what was read before and the answer for the keys that are left
 abbrev pub after : List (KeyName × Meaning) → Answer → Answer
@@ -53,7 +53,7 @@ pub so_far_more : (scale : Scale) (given : Members) (keys left : List Key) (key 
     → IsSoFar scale given keys left (before ++ (key.name, m) ∷ [])
 so_far_more scale given keys left key before m so_far here = record { rest = one_more scale given keys left key before m so_far here }
 
-pub so_far_refused : (scale : Scale) (given : Members) (keys left : List Key) (key : Key) (before : List (KeyName × Meaning)) (cause : RuleCause)
+pub so_far_refused : (scale : Scale) (given : Members) (keys left : List Key) (key : Key) (before : List (KeyName × Meaning)) (cause : KeyCause)
     → IsSoFar scale given keys (key ∷ left) before → ReadsKey scale given key (Err cause) → ReadsKeys scale given keys (Err cause)
 so_far_refused scale given keys left key before cause so_far here = so_far.rest (Err cause) (inl here)
 
@@ -68,7 +68,7 @@ all_read scale given keys i before past so_far = so_far_all scale given keys bef
 -- the checks that are left decide, and each of them is within reach
 pub record IsCheckedSoFar (d : ℕ) (entries : List (KeyName × Meaning)) (checks left : List Check) : Type 0 where
   pub passes : AllByRecursion (Passes d entries) left → AllByRecursion (Passes d entries) checks
-  pub fails : (cause : RuleCause) → Fails d entries left cause → Fails d entries checks cause
+  pub fails : (cause : KeyCause) → Fails d entries left cause → Fails d entries checks cause
   pub within : AllByRecursion (HasSmallNumbers entries) left
 
 pub checked_none : (d : ℕ) (entries : List (KeyName × Meaning)) (checks : List Check) → AllByRecursion (HasSmallNumbers entries) checks → IsCheckedSoFar d entries checks checks
@@ -82,7 +82,7 @@ checked_more d entries checks left check so_far here = record {
   within = so_far.within.1;
 }
 
-pub checked_failed : (d : ℕ) (entries : List (KeyName × Meaning)) (checks left : List Check) (check : Check) (cause : RuleCause)
+pub checked_failed : (d : ℕ) (entries : List (KeyName × Meaning)) (checks left : List Check) (check : Check) (cause : KeyCause)
     → IsCheckedSoFar d entries checks (check ∷ left) → ¬ Passes d entries check → cause ≡ cause_of check → Fails d entries checks cause
 checked_failed d entries checks left check cause so_far here is = so_far.fails cause (inl (here, is))
 
@@ -93,20 +93,17 @@ checked_all d entries checks so_far = so_far.passes tt
 pub unknown_key : (scale : Scale) (kind : TableKind) (given : Members) → ¬ HasOnly (texts (keys_of kind)) given → Reads scale kind given (Err UnknownKey)
 unknown_key scale kind given unknown = inl (unknown, refl)
 
-pub refused_key : (scale : Scale) (kind : TableKind) (given : Members) (cause : RuleCause) → HasOnly (texts (keys_of kind)) given
+pub refused_key : (scale : Scale) (kind : TableKind) (given : Members) (cause : KeyCause) → HasOnly (texts (keys_of kind)) given
     → ReadsKeys scale given (keys_of kind) (Err cause) → Reads scale kind given (Err cause)
 refused_key scale kind given cause only reads = inr (only, inl reads)
 
-pub refused_check : (scale : Scale) (kind : TableKind) (given : Members) (entries : List (KeyName × Meaning)) (cause : RuleCause) → HasOnly (texts (keys_of kind)) given
+pub refused_check : (scale : Scale) (kind : TableKind) (given : Members) (entries : List (KeyName × Meaning)) (cause : KeyCause) → HasOnly (texts (keys_of kind)) given
     → ReadsKeys scale given (keys_of kind) (Ok entries) → Fails scale.decimals entries (checks_of kind) cause → Reads scale kind given (Err cause)
 refused_check scale kind given entries cause only reads fails = inr (only, inr (entries, reads, fails))
 
 pub accepted : (scale : Scale) (kind : TableKind) (given : Members) (entries : List (KeyName × Meaning)) → HasOnly (texts (keys_of kind)) given
     → ReadsKeys scale given (keys_of kind) (Ok entries) → AllByRecursion (Passes scale.decimals entries) (checks_of kind) → Reads scale kind given (Ok entries)
 accepted scale kind given entries only reads passes = inr (only, (reads, passes))
-
-pub told_ok : {A : Type 0} (Reads : Result A RuleCause → Type 0) (x : A) → Told Reads (Ok x) → Reads (Ok x)
-told_ok Reads x told = told (λ same. cc)
 
 -- what is read past the end of a slice
 abbrev pub no_key : Key
@@ -121,12 +118,12 @@ pub pushed : (scale : Scale) (given : Members) (keys : List Key) (i : ℕ) (foun
 pushed scale given keys i found now entry within so_far here is =
     rw (is, map-append) (so_far_more scale given keys (drop (i + 1) keys) (get_or keys i no_key) (map seen found) (meaning entry) (rw (drop_more keys i no_key within) at so_far) here)
 
-pub refused_at : (scale : Scale) (given : Members) (keys : List Key) (i : ℕ) (before : List (KeyName × Meaning)) (cause : RuleCause) → i < length keys
+pub refused_at : (scale : Scale) (given : Members) (keys : List Key) (i : ℕ) (before : List (KeyName × Meaning)) (cause : KeyCause) → i < length keys
     → IsSoFar scale given keys (drop i keys) before → ReadsKey scale given (get_or keys i no_key) (Err cause) → ReadsKeys scale given keys (Err cause)
 refused_at scale given keys i before cause within so_far here =
     so_far_refused scale given keys (drop (i + 1) keys) (get_or keys i no_key) before cause (rw (drop_more keys i no_key within) at so_far) here
 
-pub failed_at : (d : ℕ) (entries : List (KeyName × Meaning)) (checks : List Check) (i : ℕ) (cause : RuleCause) → i < length checks
+pub failed_at : (d : ℕ) (entries : List (KeyName × Meaning)) (checks : List Check) (i : ℕ) (cause : KeyCause) → i < length checks
     → IsCheckedSoFar d entries checks (drop i checks) → ¬ Passes d entries (get_or checks i no_check) → cause ≡ cause_of (get_or checks i no_check) → Fails d entries checks cause
 failed_at d entries checks i cause within so_far here is =
     checked_failed d entries checks (drop (i + 1) checks) (get_or checks i no_check) cause (rw (drop_more checks i no_check within) at so_far) here is

@@ -9,7 +9,7 @@ use Rattle.toml.proofs.Views.{Entry}
 use Rattle.toml.specs.View.{members_view}
 use Rattle.rule_keys.specs.declared.key.Key.{Key}
 use Rattle.rule_keys.specs.Known.{is_known}
-use Rattle.rule_keys.specs.Reading.{HasOnly}
+use Rattle.rule_keys.specs.Table.{HasOnly}
 use Rattle.rule_keys.specs.Words.{key_text}
 
 -- the texts of some keys

@@ -2,7 +2,7 @@
 use Rattle.std.proofs.Common.{◌≡◌, ℕ, List, [], ◌∷◌, Option, Some, None, Result, Ok, Err, inl, inr, sym, ap, ◌∙◌, subst}
 use Rattle.std.specs.List.{AllByRecursion}
 use Rattle.toml.specs.Data.{Data, Members, get_member}
-use Rattle.rule_keys.specs.declared.cause.RuleCause.{RuleCause}
+use Rattle.rule_keys.specs.declared.cause.KeyCause.{KeyCause}
 use Rattle.rule_keys.specs.declared.key.TableKind.{TableKind}
 use Rattle.rule_keys.specs.declared.key.KeyName.{KeyName}
 use Rattle.rule_keys.specs.declared.key.Absent.{Absent}
@@ -13,7 +13,7 @@ use Rattle.rule_keys.specs.declared.read.Scale.{Scale}
 use Rattle.rule_keys.specs.Entries.{Meaning}
 use Rattle.rule_keys.specs.Keys.{keys_of, checks_of}
 use Rattle.rule_keys.specs.Words.{key_text}
-use Rattle.rule_keys.specs.Reading.{ReadsAbsent, ReadsFound, ReadsKey, ReadsKeys, Passes, Fails, Checked, Reads}
+use Rattle.rule_keys.specs.Table.{ReadsAbsent, ReadsFound, ReadsKey, ReadsKeys, Passes, Fails, Checked, Reads}
 use Rattle.rule_keys.proofs.OneValue.{NumbersAreOne, TimesAreOne, HasOne, value_one}
 
 -- ---- the keys
@@ -30,27 +30,27 @@ found_one numbers times scale key (Some value) = value_one numbers times scale k
 key_one : NumbersAreOne → TimesAreOne → (scale : Scale) (given : Members) (key : Key) → HasOne (ReadsKey scale given key)
 key_one numbers times scale given key = found_one numbers times scale key (get_member (key_text key.name) given)
 
-value_or_cause : {A : Type 0} (R : Result A RuleCause → Type 0) → HasOne R → (one : A) (found : RuleCause) → R (Ok one) → R (Err found) → ⊥
+value_or_cause : {A : Type 0} (R : Result A KeyCause → Type 0) → HasOne R → (one : A) (found : KeyCause) → R (Ok one) → R (Err found) → ⊥
 value_or_cause R same one found p q = let e = same (Ok one) (Err found) p q in absurd cc
 
-one_cause : {A : Type 0} (R : Result A RuleCause → Type 0) → HasOne R → (found other : RuleCause) → R (Err found) → R (Err other) → found ≡ other
+one_cause : {A : Type 0} (R : Result A KeyCause → Type 0) → HasOne R → (found other : KeyCause) → R (Err found) → R (Err other) → found ≡ other
 one_cause R same found other p q = let e = same (Err found) (Err other) p q in cc
 
-one_good : {A : Type 0} (R : Result A RuleCause → Type 0) → HasOne R → (one other : A) → R (Ok one) → R (Ok other) → one ≡ other
+one_good : {A : Type 0} (R : Result A KeyCause → Type 0) → HasOne R → (one other : A) → R (Ok one) → R (Ok other) → one ≡ other
 one_good R same one other p q = let e = same (Ok one) (Ok other) p q in cc
 
 same_entry : (one other : KeyName × Meaning) → one.0 ≡ other.0 → one.1 ≡ other.1 → one ≡ other
 same_entry one other names meanings = ap (λ n. (n, one.1)) names ∙ ap (λ m. (other.0, m)) meanings
 
-same_entries : (one other : KeyName × Meaning) (ones others : List (KeyName × Meaning)) → one ≡ other → ◌≡◌ {A = Result (List (KeyName × Meaning)) RuleCause} (Ok ones) (Ok others) → ◌≡◌ {A = Result (List (KeyName × Meaning)) RuleCause} (Ok (one ∷ ones)) (Ok (other ∷ others))
+same_entries : (one other : KeyName × Meaning) (ones others : List (KeyName × Meaning)) → one ≡ other → ◌≡◌ {A = Result (List (KeyName × Meaning)) KeyCause} (Ok ones) (Ok others) → ◌≡◌ {A = Result (List (KeyName × Meaning)) KeyCause} (Ok (one ∷ ones)) (Ok (other ∷ others))
 same_entries one other ones others p q = cc
 
 -- all keys are read, and one is refused
-no_key_refused : (scale : Scale) (given : Members) (key : Key) (keys : List Key) → HasOne (ReadsKey scale given key) → HasOne (ReadsKeys scale given keys) → (entry : KeyName × Meaning) (entries : List (KeyName × Meaning)) (found : RuleCause) → ReadsKeys scale given (key ∷ keys) (Ok (entry ∷ entries)) → ReadsKeys scale given (key ∷ keys) (Err found) → ⊥
+no_key_refused : (scale : Scale) (given : Members) (key : Key) (keys : List Key) → HasOne (ReadsKey scale given key) → HasOne (ReadsKeys scale given keys) → (entry : KeyName × Meaning) (entries : List (KeyName × Meaning)) (found : KeyCause) → ReadsKeys scale given (key ∷ keys) (Ok (entry ∷ entries)) → ReadsKeys scale given (key ∷ keys) (Err found) → ⊥
 no_key_refused scale given key keys same rest entry entries found p (inl q) = value_or_cause (ReadsKey scale given key) same entry.1 found p.1 q
 no_key_refused scale given key keys same rest entry entries found p (inr q) = value_or_cause (ReadsKeys scale given keys) rest entries found p.2 q.2
 
-first_refused : (scale : Scale) (given : Members) (key : Key) (keys : List Key) → HasOne (ReadsKey scale given key) → HasOne (ReadsKeys scale given keys) → (found other : RuleCause) → ReadsKeys scale given (key ∷ keys) (Err found) → ReadsKeys scale given (key ∷ keys) (Err other) → found ≡ other
+first_refused : (scale : Scale) (given : Members) (key : Key) (keys : List Key) → HasOne (ReadsKey scale given key) → HasOne (ReadsKeys scale given keys) → (found other : KeyCause) → ReadsKeys scale given (key ∷ keys) (Err found) → ReadsKeys scale given (key ∷ keys) (Err other) → found ≡ other
 first_refused scale given key keys same rest found other (inl p) (inl q) = one_cause (ReadsKey scale given key) same found other p q
 first_refused scale given key keys same rest found other (inl p) (inr q) = absurd (value_or_cause (ReadsKey scale given key) same q.0 found q.1 p)
 first_refused scale given key keys same rest found other (inr p) (inl q) = absurd (value_or_cause (ReadsKey scale given key) same p.0 other p.1 q)
@@ -72,25 +72,25 @@ keys_one numbers times scale given (key ∷ keys) one other p q = keys_step scal
 
 -- ---- the checks
 
-none_fails : (d : ℕ) (entries : List (KeyName × Meaning)) (checks : List Check) (found : RuleCause) → AllByRecursion (Passes d entries) checks → Fails d entries checks found → ⊥
+none_fails : (d : ℕ) (entries : List (KeyName × Meaning)) (checks : List Check) (found : KeyCause) → AllByRecursion (Passes d entries) checks → Fails d entries checks found → ⊥
 none_fails d entries [] found p q = q
 none_fails d entries (check ∷ checks) found p (inl q) = q.0 p.0
 none_fails d entries (check ∷ checks) found p (inr q) = none_fails d entries checks found p.1 q.1
 
-first_fails : (d : ℕ) (entries : List (KeyName × Meaning)) (checks : List Check) (found other : RuleCause) → Fails d entries checks found → Fails d entries checks other → found ≡ other
+first_fails : (d : ℕ) (entries : List (KeyName × Meaning)) (checks : List Check) (found other : KeyCause) → Fails d entries checks found → Fails d entries checks other → found ≡ other
 first_fails d entries [] found other p q = absurd p
 first_fails d entries (check ∷ checks) found other (inl p) (inl q) = p.1 ∙ sym q.1
 first_fails d entries (check ∷ checks) found other (inl p) (inr q) = absurd (p.0 q.0)
 first_fails d entries (check ∷ checks) found other (inr p) (inl q) = absurd (q.0 p.0)
 first_fails d entries (check ∷ checks) found other (inr p) (inr q) = first_fails d entries checks found other p.1 q.1
 
-not_checked : (d : ℕ) (checks : List Check) (R : Result (List (KeyName × Meaning)) RuleCause → Type 0) → HasOne R → (entries : List (KeyName × Meaning)) (found : RuleCause) → Checked d checks R (Ok entries) → Checked d checks R (Err found) → ⊥
+not_checked : (d : ℕ) (checks : List Check) (R : Result (List (KeyName × Meaning)) KeyCause → Type 0) → HasOne R → (entries : List (KeyName × Meaning)) (found : KeyCause) → Checked d checks R (Ok entries) → Checked d checks R (Err found) → ⊥
 not_checked d checks R same entries found p (inl q) = value_or_cause R same entries found p.0 q
 not_checked d checks R same entries found p (inr q) =
     let e = one_good R same q.0 entries q.1 p.0 in
     none_fails d entries checks found p.1 (subst (λ given. Fails d given checks found) e q.2)
 
-first_unchecked : (d : ℕ) (checks : List Check) (R : Result (List (KeyName × Meaning)) RuleCause → Type 0) → HasOne R → (found other : RuleCause) → Checked d checks R (Err found) → Checked d checks R (Err other) → found ≡ other
+first_unchecked : (d : ℕ) (checks : List Check) (R : Result (List (KeyName × Meaning)) KeyCause → Type 0) → HasOne R → (found other : KeyCause) → Checked d checks R (Err found) → Checked d checks R (Err other) → found ≡ other
 first_unchecked d checks R same found other (inl p) (inl q) = one_cause R same found other p q
 first_unchecked d checks R same found other (inl p) (inr q) = absurd (value_or_cause R same q.0 found q.1 p)
 first_unchecked d checks R same found other (inr p) (inl q) = absurd (value_or_cause R same p.0 other p.1 q)
@@ -98,7 +98,7 @@ first_unchecked d checks R same found other (inr p) (inr q) =
     let e = one_good R same q.0 p.0 q.1 p.1 in
     first_fails d p.0 checks found other p.2 (subst (λ given. Fails d given checks other) e q.2)
 
-checked_one : (d : ℕ) (checks : List Check) (R : Result (List (KeyName × Meaning)) RuleCause → Type 0) → HasOne R → HasOne (Checked d checks R)
+checked_one : (d : ℕ) (checks : List Check) (R : Result (List (KeyName × Meaning)) KeyCause → Type 0) → HasOne R → HasOne (Checked d checks R)
 checked_one d checks R same (Ok one) (Ok other) p q = same (Ok one) (Ok other) p.0 q.0
 checked_one d checks R same (Ok one) (Err found) p q = absurd (not_checked d checks R same one found p q)
 checked_one d checks R same (Err found) (Ok other) p q = absurd (not_checked d checks R same other found q p)

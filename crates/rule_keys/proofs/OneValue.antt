@@ -3,19 +3,16 @@ use Rattle.std.proofs.Common.{◌≡◌, ◌≢◌, ◌⊎◌, ℕ, zero, suc, �
 use Rattle.std.proofs.lemmas.Int.{ints}
 use Rattle.std.specs.Fmt.{signed_decimal}
 use Rattle.toml.specs.Data.{Data, string, integer, float, boolean, datetime, array, table}
-use Rattle.fix_point.specs.Scaled.{IsScaled}
 use Rattle.fix_point.specs.Scaled as Scaled
 use Rattle.fix_point.specs.declared.scale.NumFault.{NumFault}
 use Rattle.fix_point.specs.declared.scale.Extra.{Extra}
 use Rattle.fix_point.specs.declared.scale.Extra.TheVariants.{Refuse}
-use Rattle.time_text.specs.Ticks.{IsTicks}
 use Rattle.time_text.specs.Ticks as Ticks
 use Rattle.time_text.specs.declared.form.TimeForm.{TimeForm}
 use Rattle.time_text.specs.declared.form.TimeForm.TheVariants.{Sec, Milli, Micro, Nano, Instant, Civil}
 use Rattle.time_text.specs.declared.form.TimeFault.{TimeFault}
-use Rattle.time_text.specs.declared.form.TimeFault.TheVariants.{Memory}
-use Rattle.rule_keys.specs.declared.cause.RuleCause.{RuleCause}
-use Rattle.rule_keys.specs.declared.cause.RuleCause.TheVariants.{WrongKind, BadNumber, OutOfLimit}
+use Rattle.rule_keys.specs.declared.cause.KeyCause.{KeyCause}
+use Rattle.rule_keys.specs.declared.cause.KeyCause.TheVariants.{WrongKind, BadNumber, OutOfLimit}
 use Rattle.rule_keys.specs.declared.key.Kind.{Kind}
 use Rattle.rule_keys.specs.declared.key.Kind.TheVariants.{Whole, Value, Amount, Rate, Span, Moment, Name, Word}
 use Rattle.rule_keys.specs.declared.key.Choice.{Choice}
@@ -27,33 +24,33 @@ use Rattle.rule_keys.specs.Values.{Answers, AtLeast, ReadsWithin, ReadsWhole, Re
 
 -- what is proved of number texts and of time texts
 abbrev pub NumbersAreOne : Type 0
-NumbersAreOne = (text : List ℕ) (d : ℕ) (extra : Extra) (most : ℤ) (one other : Result ℤ NumFault) → Scaled.IsAnswer text d extra most one → Scaled.IsAnswer text d extra most other → one ≡ other
+NumbersAreOne = (text : List ℕ) (d : ℕ) (extra : Extra) (most : ℤ) (one other : Result ℤ NumFault) → Scaled.Reads text d extra most one → Scaled.Reads text d extra most other → one ≡ other
 
 abbrev pub TimesAreOne : Type 0
-TimesAreOne = (form : TimeForm) (text : List ℕ) (one other : Result ℤ TimeFault) → Ticks.IsAnswer form text one → Ticks.IsAnswer form text other → one ≡ other
+TimesAreOne = (form : TimeForm) (text : List ℕ) (one other : Result ℤ TimeFault) → Ticks.Reads form text one → Ticks.Reads form text other → one ≡ other
 
 -- there is one answer at most
-abbrev pub HasOne : {A : Type 0} → (Result A RuleCause → Type 0) → Type 0
-HasOne {A = A} Reads = (one other : Result A RuleCause) → Reads one → Reads other → one ≡ other
+abbrev pub HasOne : {A : Type 0} → (Result A KeyCause → Type 0) → Type 0
+HasOne {A = A} Reads = (one other : Result A KeyCause) → Reads one → Reads other → one ≡ other
 
 -- ---- answers
 
-same_value : {A : Type 0} (one other : A) → ◌≡◌ {A = Result A RuleCause} (Ok one) (Ok other) → one ≡ other
+same_value : {A : Type 0} (one other : A) → ◌≡◌ {A = Result A KeyCause} (Ok one) (Ok other) → one ≡ other
 same_value one other e = cc
 
-no_cause : {A : Type 0} (one : A) (found : RuleCause) → Ok one ≡ Err found → ⊥
+no_cause : {A : Type 0} (one : A) (found : KeyCause) → Ok one ≡ Err found → ⊥
 no_cause one found e = absurd cc
 
-answers_one : {A : Type 0} (Good : A → Type 0) (cause : RuleCause) (Bad : Type 0) → ((one other : A) → Good one → Good other → one ≡ other) → ((one : A) → Good one → Bad → ⊥) → HasOne (Answers Good cause Bad)
+answers_one : {A : Type 0} (Good : A → Type 0) (cause : KeyCause) (Bad : Type 0) → ((one other : A) → Good one → Good other → one ≡ other) → ((one : A) → Good one → Bad → ⊥) → HasOne (Answers Good cause Bad)
 answers_one Good cause Bad same apart (Ok one) (Ok other) p q = ap Ok (same one other p q)
 answers_one Good cause Bad same apart (Ok one) (Err found) p q = absurd (apart one p q.1)
 answers_one Good cause Bad same apart (Err found) (Ok other) p q = absurd (apart other q p.1)
 answers_one Good cause Bad same apart (Err found) (Err other) p q = ap Err (p.0 ∙ sym q.0)
 
-refused_one : {A : Type 0} (cause : RuleCause) (one other : Result A RuleCause) → one ≡ Err cause → other ≡ Err cause → one ≡ other
+refused_one : {A : Type 0} (cause : KeyCause) (one other : Result A KeyCause) → one ≡ Err cause → other ≡ Err cause → one ≡ other
 refused_one cause one other p q = p ∙ sym q
 
-not_less : (Reads : Result ℤ RuleCause → Type 0) → HasOne Reads → (least z : ℤ) (found : RuleCause) → AtLeast least Reads (Ok z) → AtLeast least Reads (Err found) → ⊥
+not_less : (Reads : Result ℤ KeyCause → Type 0) → HasOne Reads → (least z : ℤ) (found : KeyCause) → AtLeast least Reads (Ok z) → AtLeast least Reads (Err found) → ⊥
 not_less Reads one least z found p (inl q) = no_cause z found (one (Ok z) (Err found) p.0 q)
 not_less Reads one least z found p (inr q) =
     let same = same_value z q.1 (one (Ok z) (Ok q.1) p.0 q.2) in
@@ -61,13 +58,13 @@ not_less Reads one least z found p (inr q) =
     let less = q.3 in
     omega (arith, ints, same, enough, less)
 
-one_less : (Reads : Result ℤ RuleCause → Type 0) → HasOne Reads → (least : ℤ) (found other : RuleCause) → AtLeast least Reads (Err found) → AtLeast least Reads (Err other) → found ≡ other
+one_less : (Reads : Result ℤ KeyCause → Type 0) → HasOne Reads → (least : ℤ) (found other : KeyCause) → AtLeast least Reads (Err found) → AtLeast least Reads (Err other) → found ≡ other
 one_less Reads one least found other (inl p) (inl q) = let same = one (Err found) (Err other) p q in cc
 one_less Reads one least found other (inl p) (inr q) = absurd (no_cause q.1 found (one (Ok q.1) (Err found) q.2 p))
 one_less Reads one least found other (inr p) (inl q) = absurd (no_cause p.1 other (one (Ok p.1) (Err other) p.2 q))
 one_less Reads one least found other (inr p) (inr q) = p.0 ∙ sym q.0
 
-at_least_one : (Reads : Result ℤ RuleCause → Type 0) → HasOne Reads → (least : ℤ) → HasOne (AtLeast least Reads)
+at_least_one : (Reads : Result ℤ KeyCause → Type 0) → HasOne Reads → (least : ℤ) → HasOne (AtLeast least Reads)
 at_least_one Reads one least (Ok z) (Ok w) p q = one (Ok z) (Ok w) p.0 q.0
 at_least_one Reads one least (Ok z) (Err found) p q = absurd (not_less Reads one least z found p q)
 at_least_one Reads one least (Err found) (Ok w) p q = absurd (not_less Reads one least w found q p)
@@ -101,7 +98,7 @@ scaled_whole_one d most z one other p q = answers_one (λ w. (w ≡ z *ℤ pos (
 
 scaled_text_one : NumbersAreOne → (d most : ℕ) (text : List ℕ) → HasOne (ReadsScaledText d most text)
 scaled_text_one numbers d most text one other p q =
-    answers_one (IsScaled text d Refuse (pos most)) BadNumber ((fault : NumFault) × Scaled.Refuses text d Refuse (pos most) fault)
+    answers_one (Scaled.Spells text d Refuse (pos most)) BadNumber ((fault : NumFault) × Scaled.Refuses text d Refuse (pos most) fault)
     (λ one other p q. let same = numbers text d Refuse (pos most) (Ok one) (Ok other) p q in cc)
     (λ one p q. let same = numbers text d Refuse (pos most) (Ok one) (Err q.0) p q.1 in absurd cc)
     one other p q
@@ -119,9 +116,9 @@ scaled_one numbers d most (table found) = refused_one WrongKind
 
 time_one : TimesAreOne → (form : TimeForm) (text : List ℕ) → HasOne (ReadsTime form text)
 time_one times form text one other p q =
-    answers_one (IsTicks form text) BadNumber ((fault : TimeFault) × (fault ≢ Memory) × Ticks.Refuses form text fault)
+    answers_one (Ticks.Spells form text) BadNumber ((fault : TimeFault) × Ticks.Refuses form text fault)
     (λ one other p q. let same = times form text (Ok one) (Ok other) p q in cc)
-    (λ one p q. let same = times form text (Ok one) (Err q.0) p (q.1, q.2) in absurd cc)
+    (λ one p q. let same = times form text (Ok one) (Err q.0) p q.1 in absurd cc)
     one other p q
 
 integer_one : TimesAreOne → (form : TimeForm) (z : ℤ) → HasOne (ReadsInteger form z)
@@ -253,7 +250,7 @@ name_one (datetime moment) one other p q = p ∙ sym q
 name_one (array items) one other p q = p ∙ sym q
 name_one (table found) one other p q = p ∙ sym q
 
-as_number_one : (Reads : Result ℤ RuleCause → Type 0) → HasOne Reads → HasOne (AsNumber Reads)
+as_number_one : (Reads : Result ℤ KeyCause → Type 0) → HasOne Reads → HasOne (AsNumber Reads)
 as_number_one Reads same (Ok (number z)) (Ok (number w)) p q = ap (λ n. Ok (number n)) (same_value z w (same (Ok z) (Ok w) p q))
 as_number_one Reads same (Ok (number z)) (Ok (name s)) p q = absurd q
 as_number_one Reads same (Ok (number z)) (Ok no_name) p q = absurd q

@@ -1,4 +1,4 @@
--- What is read from a table: at each key a number or a name.
+-- To be believed: what is read from a table: at each key a number or a name.
 use Rattle.std.specs.Prelude.{◌≡◌, ℕ, ◌-◌, ◌*◌, ◌^◌, ℤ, pos, neg_ℤ, ◌≤ℤ◌, Bool, ◌==◌, if◌then◌else◌, List, [], ◌∷◌, length, Option, Some, None}
 use Rattle.std.specs.List.{AllZip}
 use Rattle.rule_keys.specs.declared.key.KeyName.{KeyName}

@@ -1,4 +1,4 @@
--- The keys of each table, in the order in which they are looked at, and the checks that follow.
+-- To be believed: the keys of each table, in the order in which they are looked at, and the checks that follow.
 use Rattle.std.specs.Prelude.{pos, neg_ℤ, ◌*◌, ◌^◌, List, [], ◌∷◌, ◌++◌}
 use Rattle.rule_keys.specs.declared.key.TableKind.{TableKind}
 use Rattle.rule_keys.specs.declared.key.TableKind.TheVariants as table

@@ -1,4 +1,4 @@
--- Whether a key is known, as a test.
+-- For proofs: whether a key is known, as a test.
 use Rattle.std.specs.Prelude.{ℕ, List, Bool}
 use Rattle.std.specs.List.{list_any}
 use Rattle.std.specs.Str.{bytes_eq}

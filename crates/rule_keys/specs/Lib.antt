@@ -1,8 +1,8 @@
 pub mod Entries
 pub mod Keys
-pub mod Seen
-pub mod Words
-pub mod Values
-pub mod Reading
-pub mod Within
 pub mod Known
+pub mod Seen
+pub mod Table
+pub mod Values
+pub mod Within
+pub mod Words

@@ -1,7 +1,7 @@
--- An entry without where its name lies in memory.
+-- For proofs: an entry without where its name lies in memory.
 use Rattle.std.specs.Prelude.{ℤ, List, map, Result, Ok, Err, Vec}
 use Rattle.std.specs.declared.alloc.Global.{Global}
-use Rattle.rule_keys.specs.declared.cause.RuleCause.{RuleCause}
+use Rattle.rule_keys.specs.declared.cause.KeyCause.{KeyCause}
 use Rattle.rule_keys.specs.declared.entries.Entry.{Entry}
 use Rattle.rule_keys.specs.declared.entries.Entry.TheVariants as entry
 use Rattle.rule_keys.specs.declared.key.KeyName.{KeyName}
@@ -16,15 +16,15 @@ abbrev pub seen : KeyName × Entry → KeyName × Meaning
 seen pair = (pair.0, meaning pair.1)
 
 -- the same of an answer
-abbrev pub meant : Result Entry RuleCause → Result Meaning RuleCause
+abbrev pub meant : Result Entry KeyCause → Result Meaning KeyCause
 meant (Ok found) = Ok (meaning found)
 meant (Err cause) = Err cause
 
-abbrev pub meant_number : Result ℤ RuleCause → Result Meaning RuleCause
+abbrev pub meant_number : Result ℤ KeyCause → Result Meaning KeyCause
 meant_number (Ok z) = Ok (number z)
 meant_number (Err cause) = Err cause
 
 -- the list of what was read, of the answer that has it
-abbrev pub seen_all : Result (Vec (KeyName × Entry) Global) RuleCause → Result (List (KeyName × Meaning)) RuleCause
+abbrev pub seen_all : Result (Vec (KeyName × Entry) Global) KeyCause → Result (List (KeyName × Meaning)) KeyCause
 seen_all (Ok found) = Ok (map seen found.items)
 seen_all (Err cause) = Err cause

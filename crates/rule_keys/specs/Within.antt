@@ -1,4 +1,4 @@
--- The sizes within which the reach of a rate can be reckoned.
+-- For proofs: the sizes within which the reach of a rate can be reckoned.
 use Rattle.std.specs.Prelude.{◌^◌, ◌≤◌, List, unsigned_abs}
 use Rattle.rule_keys.specs.declared.key.KeyName.{KeyName}
 use Rattle.rule_keys.specs.declared.key.KeyName.TheVariants.{Per, Window}

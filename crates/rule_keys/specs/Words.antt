@@ -1,4 +1,4 @@
--- The words of a rule file: its keys, and the choices.
+-- To be believed: the words of a rule file: its keys, and the choices.
 use Rattle.std.specs.Prelude.{ℕ, List, [], ◌∷◌, codes}
 use Rattle.rule_keys.specs.declared.key.KeyName.{KeyName}
 use Rattle.rule_keys.specs.declared.key.KeyName.TheVariants as key

@@ -1,10 +1,10 @@
 //! What is looked at once all keys of a table are read.
-ghost use Rattle.std.specs.Prelude.{◌≡◌, ◌≢◌, ◌*◌, ◌^◌, ◌≤◌, ◌↔◌, pos, ◌≤ℤ◌, unsigned_abs, option_map, IsTrue, MatchOption};
+ghost use Rattle.std.specs.Prelude.{◌≡◌, ◌≢◌, ◌*◌, ◌^◌, ◌≤◌, ◌↔◌, ◌≤ℤ◌, unsigned_abs, option_map, IsTrue, MatchOption};
 ghost use Rattle.std.specs.List.{AllByRecursion};
-ghost use Rattle.rule_keys.specs.Reading.{Fails, Passes, IsInReach, cause_of};
+ghost use Rattle.rule_keys.specs.Table.{Fails, Passes, IsInReach, cause_of};
 ghost use Rattle.rule_keys.specs.Within.{HasSmallNumbers};
 
-use crate::cause::RuleCause;
+use crate::cause::KeyCause;
 use crate::entries::Entries;
 use crate::key::{Check, KeyName};
 
@@ -12,7 +12,7 @@ use crate::key::{Check, KeyName};
 const MOST_REACH: u128 = 4_000_000_000_000_000_000_000_000_000_000;
 
 /// The cause of the first check that does not pass.
-pub(crate) fn check_all(d: u32, entries: &Entries, checks: &[Check]) -> Option<RuleCause>
+pub(crate) fn check_all(d: u32, entries: &Entries, checks: &[Check]) -> Option<KeyCause>
     requires decimals { d ≤ 6 }
     requires within { AllByRecursion (HasSmallNumbers entries.now) checks.now }
     ensures { MatchOption result (AllByRecursion (Passes d entries.now) checks.now) (Fails d entries.now checks.now) }
@@ -25,16 +25,18 @@ pub(crate) fn check_all(d: u32, entries: &Entries, checks: &[Check]) -> Option<R
     None
 }
 
-fn cause_of(check: Check) -> RuleCause
+/// The cause to refuse a table where the check does not pass.
+fn cause_of(check: Check) -> KeyCause
     ensures { result ≡ cause_of check }
 {
     match check {
-        Check::Order { .. } => RuleCause::Order,
-        Check::Reach(_) => RuleCause::ReachTooLarge,
-        Check::Differ(..) => RuleCause::SameSensor,
+        Check::Order { .. } => KeyCause::Order,
+        Check::Reach(_) => KeyCause::ReachTooLarge,
+        Check::Differ(..) => KeyCause::SameSensor,
     }
 }
 
+/// Whether a check passes.
 fn passes(d: u32, entries: &Entries, check: Check) -> bool
     requires decimals { d ≤ 6 }
     requires within { HasSmallNumbers entries.now check }
@@ -52,6 +54,7 @@ fn passes(d: u32, entries: &Entries, check: Check) -> bool
     }
 }
 
+/// Whether the first number is not above the second.
 fn is_in_order(low: i64, high: i64) -> bool
     ensures { IsTrue result ↔ (low ≤ℤ high) }
 {
@@ -73,7 +76,7 @@ fn reaches(d: u32, millionths: i64, per: i64, window: i64) -> bool
     reach <= MOST_REACH * u128::from(per.unsigned_abs())
 }
 
-/// The names differ, or only one is there.
+/// Whether the names differ, or only one is there.
 fn differ(first: Option<&[u8]>, second: Option<&[u8]>) -> bool
     ensures { IsTrue result ↔ (option_map (λ text. text.now) first.entry ≢ option_map (λ text. text.now) second.entry) }
 {

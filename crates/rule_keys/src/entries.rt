@@ -9,14 +9,18 @@ use std::marker::Model;
 /// What stands at a key, or is taken in its place.
 #[derive(Clone, Copy)]
 pub(crate) enum Entry<'a> {
+    /// A number: what it counts is for the kind of the key to say.
     Number(i64),
+    /// A name, without the blanks at its ends.
     Name(&'a [u8]),
+    /// No name.
     NoName,
 }
 
 /// What was read from a table, key by key.
 #[derive(Drop)]
 pub struct Entries<'a> {
+    /// The keys in the order in which they were looked at, each with what stands there.
     pub(crate) found: Vec<(KeyName, Entry<'a>)>,
 }
 
@@ -66,6 +70,7 @@ fn entry_at<'a>(found: &[(KeyName, Entry<'a>)], key: KeyName) -> Entry<'a>
     Entry::NoName
 }
 
+/// Whether two keys are the same.
 fn is_same(key: KeyName, other: KeyName) -> bool
     ensures { result ≡ is_same_key key other }
 {

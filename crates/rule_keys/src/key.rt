@@ -24,23 +24,41 @@ pub enum TableKind {
 /// The keys of all tables.
 #[derive(Clone, Copy, Debug, PartialEq, Eq)]
 pub enum KeyName {
+    /// The decimals of a value.
     Decimals,
+    /// The name of the time column.
     Time,
+    /// The form of times.
     Form,
+    /// The byte between two fields.
     Separator,
+    /// What is done with extra decimals.
     Extra,
+    /// The rows that a repair of a stream may hold back.
     Hold,
+    /// The name of the sensor's column.
     Sensor,
+    /// The least value, difference or rate.
     Min,
+    /// The greatest value, difference or rate.
     Max,
+    /// The seconds of a rate.
     Per,
+    /// The longest time that a rule speaks of.
     Window,
+    /// The greatest difference.
     Most,
+    /// The shortest time that a rule speaks of.
     Over,
+    /// The first time that a rule speaks of.
     From,
+    /// The last time that a rule speaks of.
     To,
+    /// How many times a change counts.
     Weight,
+    /// The name of the first sensor's column.
     First,
+    /// The name of the second sensor's column.
     Second,
 }
 

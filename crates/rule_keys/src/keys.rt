@@ -31,12 +31,16 @@ macro_rules! order {
     };
 }
 
+/// The column of the sensor.
 const SENSOR: Key = key!(Sensor, Kind::Name);
 
+/// The least rate.
 const MIN_RATE: Key = key!(Min, Kind::Rate);
 
+/// The greatest rate.
 const MAX_RATE: Key = key!(Max, Kind::Rate);
 
+/// The seconds of a rate.
 const PER: Key = key!(
     Per,
     Kind::Whole {
@@ -46,10 +50,13 @@ const PER: Key = key!(
     Absent::Number(1)
 );
 
+/// The window.
 const WINDOW: Key = key!(Window, Kind::Span);
 
+/// The first tick that a rule speaks of.
 const FROM: Key = key!(From, Kind::Moment, Absent::Number(-MOST_TICKS));
 
+/// The last tick that a rule speaks of.
 const TO: Key = key!(To, Kind::Moment, Absent::Number(MOST_TICKS));
 
 /// The keys of a table, in the order in which they are looked at.

@@ -9,12 +9,12 @@ mod keys;
 mod read;
 #[cfg(test)]
 mod tests;
+mod texts;
 mod value;
-mod words;
 
-pub use cause::RuleCause;
+pub use cause::KeyCause;
 pub use entries::Entries;
 pub use key::{Absent, Check, Choice, Key, KeyName, Kind, TableKind};
 pub use keys::keys_of;
 pub use read::{Scale, one_answer, read_table};
-pub use words::{key_text, words_of};
+pub use texts::{key_text, words_of};

@@ -1,24 +1,25 @@
 //! A table of a rule file, read by the description of its keys.
-ghost use Rattle.std.specs.Prelude.{◌≡◌, ◌≤◌, ◌↔◌, ◌*◌, List, Result, map, length, string_bytes, IsTrue, Contains, IfOk, IfErr};
+ghost use Rattle.std.specs.Prelude.{◌≡◌, ◌≢◌, ◌≤◌, List, Result, string_bytes, IfOk, IfErr};
 ghost use Rattle.std.specs.List.{list_all};
 ghost use Rattle.std.specs.Map.{keys_of as keys_of_map};
 ghost use Rattle.std.specs.Str.{bytes_eq};
 ghost use Rattle.toml.specs.Data.{Members};
 ghost use Rattle.toml.specs.View.{table_view};
+ghost use Rattle.words.specs.Answers.{UnlessMemory};
 ghost use Rattle.rule_keys.specs.Entries.{Fit, Meaning};
 ghost use Rattle.rule_keys.specs.Keys.{keys_of};
 ghost use Rattle.rule_keys.specs.Known.{is_known};
-ghost use Rattle.rule_keys.specs.Reading.{HasOnly, Reads, ReadsAbsent, ReadsKey, ReadsKeys, Told};
+ghost use Rattle.rule_keys.specs.Table.{Reads, ReadsAbsent, ReadsKey, ReadsKeys, Refuses, Spells};
 ghost use Rattle.rule_keys.specs.Seen.{meant, seen_all};
 ghost use Rattle.rule_keys.specs.Words.{key_text};
 
-use crate::cause::RuleCause;
+use crate::cause::KeyCause;
 use crate::check::check_all;
 use crate::entries::{Entries, Entry};
 use crate::key::{Absent, Key, KeyName, TableKind};
 use crate::keys::{checks_of, keys_of};
+use crate::texts::key_text;
 use crate::value::read_value;
-use crate::words::key_text;
 use std::alloc::Global;
 use time_text::TimeForm;
 use toml::Table;
@@ -49,14 +50,33 @@ pub fn read_table<'a>(
     scale: Scale,
     kind: TableKind,
     table: &'a Table,
-) -> Result<Entries<'a>, RuleCause>
+) -> Result<Entries<'a>, KeyCause>
     requires decimals { scale.decimals ≤ 6 }
-    ensures answer { Told (Reads scale kind (table_view table.now)) result }
+    ensures accepted { IfOk result (Spells scale kind (table_view table.now)) }
+    ensures refused { IfErr result (λ cause. cause ≢ KeyCause.Memory → Refuses scale kind (table_view table.now) cause) }
+    ensures only { (answer : Result (List (KeyName × Meaning)) KeyCause) → Reads scale kind (table_view table.now) answer →
+        UnlessMemory KeyCause.Memory (λ given. given ≡ answer) result }
+    ensures fit { IfOk result (Fit (keys_of kind)) }
+{
+    // The law behind `only`; it does nothing.
+    one_answer();
+    table_entries(alloc, scale, kind, table)
+}
+
+/// What the table is read as.
+fn table_entries<'a>(
+    alloc: Global,
+    scale: Scale,
+    kind: TableKind,
+    table: &'a Table,
+) -> Result<Entries<'a>, KeyCause>
+    requires decimals { scale.decimals ≤ 6 }
+    ensures answer { UnlessMemory KeyCause.Memory (Reads scale kind (table_view table.now)) result }
     ensures fit { IfOk result (Fit (keys_of kind)) }
 {
     let keys = keys_of(kind);
     if !has_only(keys, table) {
-        return Err(RuleCause::UnknownKey);
+        return Err(KeyCause::UnknownKey);
     }
     let found = read_keys(alloc, scale, keys, table)?;
     let entries = Entries { found };
@@ -68,7 +88,7 @@ pub fn read_table<'a>(
 
 /// A table has one answer only: its entries, or one cause to refuse it.
 pub fn one_answer()
-    ensures { (scale : Scale) (kind : TableKind) (given : Members) (one other : Result (List (KeyName × Meaning)) RuleCause) → Reads scale kind given one → Reads scale kind given other → one ≡ other }
+    ensures { (scale : Scale) (kind : TableKind) (given : Members) (one other : Result (List (KeyName × Meaning)) KeyCause) → Reads scale kind given one → Reads scale kind given other → one ≡ other }
 {
     fix_point::one_answer();
     time_text::one_answer();
@@ -81,12 +101,14 @@ fn has_only(keys: &[Key], table: &Table) -> bool
     table.keys().all(|text| has_key(keys, text.as_str()))
 }
 
+/// Whether the text is that of one of these keys.
 fn has_key(keys: &[Key], text: &str) -> bool
     ensures { result ≡ is_known keys.now text.now }
 {
     keys.iter().any(|key| is_key(*key, text))
 }
 
+/// Whether the text is that of this key.
 fn is_key(key: Key, text: &str) -> bool
     ensures { result ≡ bytes_eq (key_text key.name) text.now }
 {
@@ -99,17 +121,17 @@ fn read_keys<'a>(
     scale: Scale,
     keys: &[Key],
     table: &'a Table,
-) -> Result<Vec<(KeyName, Entry<'a>)>, RuleCause>
+) -> Result<Vec<(KeyName, Entry<'a>)>, KeyCause>
     requires { scale.decimals ≤ 6 }
-    ensures { Told (ReadsKeys scale (table_view table.now) keys.now) (seen_all result) }
+    ensures { UnlessMemory KeyCause.Memory (ReadsKeys scale (table_view table.now) keys.now) (seen_all result) }
 {
     let Ok(mut found) = Vec::with_capacity(alloc, keys.len()) else {
-        return Err(RuleCause::Memory);
+        return Err(KeyCause::Memory);
     };
     for key in keys {
         let entry = read_key(alloc, scale, *key, table)?;
         let Ok(()) = found.push((key.name, entry)) else {
-            return Err(RuleCause::Memory);
+            return Err(KeyCause::Memory);
         };
     }
     Ok(found)
@@ -121,7 +143,7 @@ fn read_key<'a>(
     scale: Scale,
     key: Key,
     table: &'a Table,
-) -> Result<Entry<'a>, RuleCause>
+) -> Result<Entry<'a>, KeyCause>
     requires { scale.decimals ≤ 6 }
     ensures { ReadsKey scale (table_view table.now) key (meant result) }
 {
@@ -132,11 +154,11 @@ fn read_key<'a>(
 }
 
 /// What is taken where a key is absent.
-fn absent_entry<'a>(absent: Absent) -> Result<Entry<'a>, RuleCause>
+fn absent_entry<'a>(absent: Absent) -> Result<Entry<'a>, KeyCause>
     ensures { ReadsAbsent absent (meant result) }
 {
     match absent {
-        Absent::Refused => Err(RuleCause::MissingKey),
+        Absent::Refused => Err(KeyCause::MissingKey),
         Absent::Number(number) => Ok(Entry::Number(number)),
         Absent::NoName => Ok(Entry::NoName),
     }

@@ -4,11 +4,11 @@ ghost use Rattle.toml.specs.View.{view};
 ghost use Rattle.rule_keys.specs.Seen.{meant, meant_number};
 ghost use Rattle.rule_keys.specs.Values.{IsAtLeast, ReadsChosen, ReadsInteger, ReadsMoment, ReadsName, ReadsScaled, ReadsScaledText, ReadsScaledWhole, ReadsTime, ReadsValue, ReadsWhole, ReadsWithin, ReadsWord};
 
-use crate::cause::RuleCause;
+use crate::cause::KeyCause;
 use crate::entries::Entry;
 use crate::key::{Choice, Kind};
 use crate::read::Scale;
-use crate::words::place_of;
+use crate::texts::place_of;
 use fix_point::{Extra, MOST_UNITS};
 use itoa::Buffer;
 use std::alloc::Global;
@@ -33,7 +33,7 @@ pub(crate) fn read_value<'a>(
     scale: Scale,
     kind: Kind,
     value: &'a Value,
-) -> Result<Entry<'a>, RuleCause>
+) -> Result<Entry<'a>, KeyCause>
     requires { scale.decimals ≤ 6 }
     ensures { ReadsValue scale kind (view value.now) (meant result) }
 {
@@ -49,7 +49,8 @@ pub(crate) fn read_value<'a>(
     }
 }
 
-fn numbered<'a>(number: Result<i64, RuleCause>) -> Result<Entry<'a>, RuleCause>
+/// The number as an entry.
+fn numbered<'a>(number: Result<i64, KeyCause>) -> Result<Entry<'a>, KeyCause>
     ensures { meant result ≡ meant_number number }
 {
     match number {
@@ -59,37 +60,38 @@ fn numbered<'a>(number: Result<i64, RuleCause>) -> Result<Entry<'a>, RuleCause>
 }
 
 /// A TOML integer within limits.
-fn whole(least: i64, most: i64, value: &Value) -> Result<i64, RuleCause>
+fn whole(least: i64, most: i64, value: &Value) -> Result<i64, KeyCause>
     ensures { ReadsWhole least most (view value.now) result }
 {
     match value {
         Value::Integer(number) => within(least, most, *number),
-        _ => Err(RuleCause::WrongKind),
+        _ => Err(KeyCause::WrongKind),
     }
 }
 
-fn within(least: i64, most: i64, number: i64) -> Result<i64, RuleCause>
+/// A number within limits.
+fn within(least: i64, most: i64, number: i64) -> Result<i64, KeyCause>
     ensures { ReadsWithin least most number result }
 {
     if least <= number && number <= most {
         Ok(number)
     } else {
-        Err(RuleCause::OutOfLimit)
+        Err(KeyCause::OutOfLimit)
     }
 }
 
 /// The number, unless it is less than the least.
-fn at_least(least: i64, number: Result<i64, RuleCause>) -> Result<i64, RuleCause>
+fn at_least(least: i64, number: Result<i64, KeyCause>) -> Result<i64, KeyCause>
     ensures { IsAtLeast least number result }
 {
     match number {
-        Ok(number) if number < least => Err(RuleCause::OutOfLimit),
+        Ok(number) if number < least => Err(KeyCause::OutOfLimit),
         _ => number,
     }
 }
 
 /// Units of 10^-d: of a TOML integer, which is that many wholes, or of a number text.
-fn scaled(d: u32, most: u64, value: &Value) -> Result<i64, RuleCause>
+fn scaled(d: u32, most: u64, value: &Value) -> Result<i64, KeyCause>
     requires decimals { d ≤ 9 }
     requires most { most ≤ 9 * 10 ^ 18 }
     ensures { ReadsScaled d most (view value.now) result }
@@ -97,48 +99,51 @@ fn scaled(d: u32, most: u64, value: &Value) -> Result<i64, RuleCause>
     match value {
         Value::Integer(wholes) => scaled_whole(d, most, *wholes),
         Value::String(text) => scaled_text(d, most, text.as_bytes()),
-        _ => Err(RuleCause::WrongKind),
+        _ => Err(KeyCause::WrongKind),
     }
 }
 
-fn scaled_whole(d: u32, most: u64, wholes: i64) -> Result<i64, RuleCause>
+/// So many wholes as units of 10^-d.
+fn scaled_whole(d: u32, most: u64, wholes: i64) -> Result<i64, KeyCause>
     requires decimals { d ≤ 9 }
     requires most { most ≤ 9 * 10 ^ 18 }
     ensures { ReadsScaledWhole d most wholes result }
 {
     match wholes.checked_mul(10_i64.pow(d)) {
         Some(units) if units.unsigned_abs() <= most => Ok(units),
-        _ => Err(RuleCause::BadNumber),
+        _ => Err(KeyCause::BadNumber),
     }
 }
 
-fn scaled_text(d: u32, most: u64, text: &[u8]) -> Result<i64, RuleCause>
+/// The units of 10^-d of a number text.
+fn scaled_text(d: u32, most: u64, text: &[u8]) -> Result<i64, KeyCause>
     requires decimals { d ≤ 9 }
     requires most { most ≤ 9 * 10 ^ 18 }
     ensures { ReadsScaledText d most text.now result }
 {
     match fix_point::scaled(text, d, Extra::Refuse, most as i64) {
         Ok(units) => Ok(units),
-        Err(_) => Err(RuleCause::BadNumber),
+        Err(_) => Err(KeyCause::BadNumber),
     }
 }
 
 /// The ticks of a time text, or of a TOML integer where times are numbers.
-fn moment(alloc: Global, form: TimeForm, value: &Value) -> Result<i64, RuleCause>
+fn moment(alloc: Global, form: TimeForm, value: &Value) -> Result<i64, KeyCause>
     ensures { ReadsMoment form (view value.now) result }
 {
     match value {
         Value::String(text) => time(alloc, form, text.as_bytes()),
         Value::Integer(number) => numeric_time(alloc, form, *number),
-        _ => Err(RuleCause::WrongKind),
+        _ => Err(KeyCause::WrongKind),
     }
 }
 
-fn numeric_time(alloc: Global, form: TimeForm, number: i64) -> Result<i64, RuleCause>
+/// The ticks of a TOML integer, where times are numbers.
+fn numeric_time(alloc: Global, form: TimeForm, number: i64) -> Result<i64, KeyCause>
     ensures { ReadsInteger form number result }
 {
     match form {
-        TimeForm::Instant | TimeForm::Civil => Err(RuleCause::WrongKind),
+        TimeForm::Instant | TimeForm::Civil => Err(KeyCause::WrongKind),
         TimeForm::Sec | TimeForm::Milli | TimeForm::Micro | TimeForm::Nano => {
             let mut digits = Buffer::new();
             time(alloc, form, digits.format(number).as_bytes())
@@ -146,40 +151,42 @@ fn numeric_time(alloc: Global, form: TimeForm, number: i64) -> Result<i64, RuleC
     }
 }
 
-fn time(alloc: Global, form: TimeForm, text: &[u8]) -> Result<i64, RuleCause>
+/// The ticks of a time text.
+fn time(alloc: Global, form: TimeForm, text: &[u8]) -> Result<i64, KeyCause>
     ensures { ReadsTime form text.now result }
 {
     match ticks(alloc, form, text) {
         Ok(ticks) => Ok(ticks),
-        Err(_) => Err(RuleCause::BadNumber),
+        Err(_) => Err(KeyCause::BadNumber),
     }
 }
 
 /// The place of a word in its list.
-fn word(choice: Choice, value: &Value) -> Result<i64, RuleCause>
+fn word(choice: Choice, value: &Value) -> Result<i64, KeyCause>
     ensures { ReadsWord choice (view value.now) result }
 {
     match value {
         Value::String(word) => chosen(choice, word.as_str()),
-        _ => Err(RuleCause::WrongKind),
+        _ => Err(KeyCause::WrongKind),
     }
 }
 
-fn chosen(choice: Choice, word: &str) -> Result<i64, RuleCause>
+/// The place of this word in its list.
+fn chosen(choice: Choice, word: &str) -> Result<i64, KeyCause>
     ensures { ReadsChosen choice word.now result }
 {
     match place_of(choice, word) {
         Some(place) => Ok(place as i64),
-        None => Err(RuleCause::OutOfLimit),
+        None => Err(KeyCause::OutOfLimit),
     }
 }
 
 /// A string without the blanks at its ends.
-fn name(value: &Value) -> Result<Entry<'_>, RuleCause>
+fn name(value: &Value) -> Result<Entry<'_>, KeyCause>
     ensures { ReadsName (view value.now) (meant result) }
 {
     match value {
         Value::String(text) => Ok(Entry::Name(trimmed_text(text.as_bytes()))),
-        _ => Err(RuleCause::WrongKind),
+        _ => Err(KeyCause::WrongKind),
     }
 }

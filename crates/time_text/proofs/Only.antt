@@ -1,14 +1,13 @@
 -- A time text has one answer.
-use Rattle.std.proofs.Common.{◌≡◌, ◌≢◌, ℕ, ◌≤◌, ℤ, pos, List, Result, Ok, Err, length, unsigned_abs, IsUtf8, inl, inr, refl, sym, ap, ◌∙◌, arith}
+use Rattle.std.proofs.Common.{◌≡◌, ◌≢◌, ℕ, ◌≤◌, ℤ, pos, List, Result, Ok, Err, IfOk, IfErr, length, unsigned_abs, IsUtf8, inl, inr, refl, sym, ap, ◌∙◌, arith}
 use Rattle.jiff.specs.Types.{DateTime}
 use Rattle.jiff.specs.Words.{Error, parse_datetime, date_parts, time_parts, civil_nanos}
-use Rattle.fix_point.specs.Scaled.{IsScaled}
 use Rattle.fix_point.specs.Scaled as Scaled
 use Rattle.fix_point.specs.declared.scale.NumFault.{NumFault}
 use Rattle.fix_point.specs.declared.scale.Extra.{Extra}
 use Rattle.time_text.specs.Trimmed.{trimmed}
 use Rattle.time_text.specs.Calendar.{with_designator, IsInstant, IsNoInstant, IsCivil, IsNoCivil}
-use Rattle.time_text.specs.Ticks.{most_ticks, IsNumber, NumberRefuses, IsCalendar, CalendarRefuses, IsTrimmedTicks, RefusesTrimmed, IsAnswer}
+use Rattle.time_text.specs.Ticks.{most_ticks, IsNumber, NumberRefuses, IsCalendar, CalendarRefuses, IsTrimmedTicks, RefusesTrimmed, Reads}
 use Rattle.time_text.specs.declared.form.TimeForm.{TimeForm}
 use Rattle.time_text.specs.declared.form.TimeForm.TheVariants.{Sec, Milli, Micro, Nano, Instant, Civil}
 use Rattle.time_text.specs.declared.form.TimeFault.{TimeFault}
@@ -16,7 +15,7 @@ use Rattle.time_text.specs.declared.form.TimeFault.TheVariants.{NotTime, TimeToo
 
 -- what is proved of decimal texts
 abbrev pub HasOneNumber : Type 0
-HasOneNumber = (text : List ℕ) (d : ℕ) (extra : Extra) (most : ℤ) (one other : Result ℤ NumFault) → Scaled.IsAnswer text d extra most one → Scaled.IsAnswer text d extra most other → one ≡ other
+HasOneNumber = (text : List ℕ) (d : ℕ) (extra : Extra) (most : ℤ) (one other : Result ℤ NumFault) → Scaled.Reads text d extra most one → Scaled.Reads text d extra most other → one ≡ other
 
 -- values and reasons of a text exclude one another, and there is one at most
 pub record HasOneAnswer (Reads : ℤ → Type 0) (Fails : TimeFault → Type 0) : Type 0 where
@@ -147,8 +146,33 @@ trimmed_answer law Nano text = number_answer law 0 text
 trimmed_answer law Instant text = calendar_answer IsInstant IsNoInstant one_instant instant_or_none text
 trimmed_answer law Civil text = calendar_answer IsCivil IsNoCivil one_civil civil_or_none text
 
-pub one_answer_only : HasOneNumber → (form : TimeForm) (text : List ℕ) (one other : Result ℤ TimeFault) → IsAnswer form text one → IsAnswer form text other → one ≡ other
+number_not_memory : (d : ℕ) (text : List ℕ) (fault : TimeFault) → NumberRefuses d text fault → fault ≢ Memory
+number_not_memory d text NotTime p e = cc
+number_not_memory d text TimeTooFine p e = cc
+number_not_memory d text TimeOutOfRange p e = cc
+number_not_memory d text Memory p e = p
+
+calendar_not_memory : (Reads : List ℕ → ℤ → Type 0) (Fails : List ℕ → Type 0) (text : List ℕ) (fault : TimeFault) → CalendarRefuses Reads Fails text fault → fault ≢ Memory
+calendar_not_memory Reads Fails text NotTime p e = cc
+calendar_not_memory Reads Fails text TimeTooFine p e = cc
+calendar_not_memory Reads Fails text TimeOutOfRange p e = cc
+calendar_not_memory Reads Fails text Memory p e = p
+
+not_memory : (form : TimeForm) (text : List ℕ) (fault : TimeFault) → RefusesTrimmed form text fault → fault ≢ Memory
+not_memory Sec text fault p = number_not_memory 9 text fault p
+not_memory Milli text fault p = number_not_memory 6 text fault p
+not_memory Micro text fault p = number_not_memory 3 text fault p
+not_memory Nano text fault p = number_not_memory 0 text fault p
+not_memory Instant text fault p = calendar_not_memory IsInstant IsNoInstant text fault p
+not_memory Civil text fault p = calendar_not_memory IsCivil IsNoCivil text fault p
+
+pub one_answer_only : HasOneNumber → (form : TimeForm) (text : List ℕ) (one other : Result ℤ TimeFault) → Reads form text one → Reads form text other → one ≡ other
 one_answer_only law form text (Ok one) (Ok other) p q = ap Ok ((trimmed_answer law form (trimmed text)).value one other p q)
-one_answer_only law form text (Ok one) (Err fault) p q = absurd ((trimmed_answer law form (trimmed text)).apart one fault p q.0 q.1)
-one_answer_only law form text (Err fault) (Ok other) p q = absurd ((trimmed_answer law form (trimmed text)).apart other fault q p.0 p.1)
-one_answer_only law form text (Err one) (Err other) p q = ap Err ((trimmed_answer law form (trimmed text)).fault one other p.0 p.1 q.0 q.1)
+one_answer_only law form text (Ok one) (Err fault) p q = absurd ((trimmed_answer law form (trimmed text)).apart one fault p (not_memory form (trimmed text) fault q) q)
+one_answer_only law form text (Err fault) (Ok other) p q = absurd ((trimmed_answer law form (trimmed text)).apart other fault q (not_memory form (trimmed text) fault p) p)
+one_answer_only law form text (Err one) (Err other) p q = ap Err ((trimmed_answer law form (trimmed text)).fault one other (not_memory form (trimmed text) one p) p (not_memory form (trimmed text) other q) q)
+
+-- what a reader answers is what the text is read as
+pub is_read : (form : TimeForm) (text : List ℕ) (result : Result ℤ TimeFault) → IfOk result (IsTrimmedTicks form (trimmed text)) → IfErr result (RefusesTrimmed form (trimmed text)) → Reads form text result
+is_read form text (Ok ticks) spells refuses = spells
+is_read form text (Err fault) spells refuses = refuses

@@ -1,4 +1,4 @@
--- The nanoseconds since 1970-01-01T00:00:00Z that calendar texts name.
+-- To be believed: the nanoseconds since 1970-01-01T00:00:00Z that calendar texts name.
 use Rattle.std.specs.Prelude.{◌≡◌, ℕ, ◌==◌, ℤ, List, Ok, Err, if◌then◌else◌, slice_index, slice_set}
 use Rattle.jiff.specs.Types.{DateTime}
 use Rattle.jiff.specs.Words.{Error, parse_timestamp, parse_datetime, date_parts, time_parts, civil_nanos}

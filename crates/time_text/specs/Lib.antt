@@ -1,3 +1,3 @@
-pub mod Trimmed
 pub mod Calendar
 pub mod Ticks
+pub mod Trimmed

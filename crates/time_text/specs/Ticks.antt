@@ -1,6 +1,5 @@
--- The ticks of a time text, and why a text has none. A tick is a nanosecond.
-use Rattle.std.specs.Prelude.{◌≢◌, ℕ, ◌*◌, ◌^◌, ◌<◌, ◌≤◌, ◌⊎◌, ℤ, pos, List, length, Result, Ok, Err, unsigned_abs, IsUtf8}
-use Rattle.fix_point.specs.Scaled.{IsScaled}
+-- To be believed: what a time text is read as, its ticks or why it has none. A tick is a nanosecond.
+use Rattle.std.specs.Prelude.{ℕ, ◌*◌, ◌^◌, ◌<◌, ◌≤◌, ◌⊎◌, ℤ, pos, List, length, Result, Ok, Err, unsigned_abs, IsUtf8}
 use Rattle.fix_point.specs.Scaled as Scaled
 use Rattle.fix_point.specs.declared.scale.NumFault.TheVariants as NumFault
 use Rattle.fix_point.specs.declared.scale.Extra.TheVariants as Extra
@@ -17,14 +16,14 @@ most_ticks = 9 * 10 ^ 18
 
 -- The text is a number of units of 10^d ticks, and this is the number of ticks.
 abbrev pub IsNumber : ℕ → List ℕ → ℤ → Type 0
-IsNumber d text ticks = IsScaled text d Extra.Refuse (pos most_ticks) ticks
+IsNumber d text ticks = Scaled.Spells text d Extra.Refuse (pos most_ticks) ticks
 
 -- why a text is no such number
 abbrev pub NumberRefuses : ℕ → List ℕ → TimeFault → Type 0
 NumberRefuses d text NotTime = Scaled.Refuses text d Extra.Refuse (pos most_ticks) NumFault.NotNumber
 NumberRefuses d text TimeTooFine = Scaled.Refuses text d Extra.Refuse (pos most_ticks) NumFault.TooFine
 NumberRefuses d text TimeOutOfRange = Scaled.Refuses text d Extra.Refuse (pos most_ticks) NumFault.OutOfRange
-NumberRefuses d text Memory = Unit {0}
+NumberRefuses d text Memory = ⊥
 
 -- the text is read as this nanosecond, which is in the range of ticks
 pub record IsCalendar (Reads : List ℕ → ℤ → Type 0) (text : List ℕ) (ticks : ℤ) : Type 0 where
@@ -46,7 +45,7 @@ CalendarRefuses Reads Fails text NotTime =
     (64 < length text) ⊎ ((¬ IsUtf8 (with_designator text)) ⊎ Fails (with_designator text))
 CalendarRefuses Reads Fails text TimeTooFine = ⊥
 CalendarRefuses Reads Fails text TimeOutOfRange = (nanosecond : ℤ) × IsBeyond Reads text nanosecond
-CalendarRefuses Reads Fails text Memory = Unit {0}
+CalendarRefuses Reads Fails text Memory = ⊥
 
 -- the trimmed text stands for these ticks in the form
 abbrev pub IsTrimmedTicks : TimeForm → List ℕ → ℤ → Type 0
@@ -66,15 +65,15 @@ RefusesTrimmed Nano text fault = NumberRefuses 0 text fault
 RefusesTrimmed Instant text fault = CalendarRefuses IsInstant IsNoInstant text fault
 RefusesTrimmed Civil text fault = CalendarRefuses IsCivil IsNoCivil text fault
 
--- the text stands for these ticks in the form
-abbrev pub IsTicks : TimeForm → List ℕ → ℤ → Type 0
-IsTicks form text ticks = IsTrimmedTicks form (trimmed text) ticks
+-- What a text is read as in the form. Want of memory is no reason to refuse a text.
+abbrev pub Reads : TimeForm → List ℕ → Result ℤ TimeFault → Type 0
+Reads form text (Ok ticks) = IsTrimmedTicks form (trimmed text) ticks
+Reads form text (Err fault) = RefusesTrimmed form (trimmed text) fault
 
--- why it stands for none
+-- the text stands for these ticks
+abbrev pub Spells : TimeForm → List ℕ → ℤ → Type 0
+Spells form text ticks = Reads form text (Ok ticks)
+
+-- the text is refused for this
 abbrev pub Refuses : TimeForm → List ℕ → TimeFault → Type 0
-Refuses form text fault = RefusesTrimmed form (trimmed text) fault
-
--- the one or the other; want of memory is no reason that a text has
-abbrev pub IsAnswer : TimeForm → List ℕ → Result ℤ TimeFault → Type 0
-IsAnswer form text (Ok ticks) = IsTicks form text ticks
-IsAnswer form text (Err fault) = (fault ≢ Memory) × Refuses form text fault
+Refuses form text fault = Reads form text (Err fault)

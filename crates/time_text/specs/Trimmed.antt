@@ -1,4 +1,4 @@
--- A text without the blanks at its ends.
+-- To be believed: a text without the blanks at its ends.
 use Rattle.std.specs.Prelude.{ℕ, List, [], ◌∷◌, if◌then◌else◌, reverse}
 use Rattle.fix_point.specs.Grammar.{is_blank}
 

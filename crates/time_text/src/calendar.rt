@@ -1,3 +1,4 @@
+//! Calendar texts as ticks, read by `jiff`.
 ghost use Rattle.std.specs.Prelude.{◌≡◌, ℤ, ◌<◌, ◌≤◌, length, take, unsigned_abs, IfOk, IfErr, IsErrOf, Ok, Err, IsUtf8};
 ghost use Rattle.time_text.specs.Calendar.{with_designator, IsInstant, IsNoInstant, IsCivil, IsNoCivil};
 ghost use Rattle.time_text.specs.Ticks.{most_ticks, IsCalendar, CalendarRefuses};
@@ -7,13 +8,13 @@ use jiff::Timestamp;
 use jiff::civil::DateTime;
 use std::str;
 
-// The most bytes of a calendar text.
+/// The most bytes of a calendar text.
 const LONGEST: usize = 64;
 
-// Where the `T` stands between a date and a time.
+/// Where the `T` stands between a date and a time.
 const DESIGNATOR: usize = 10;
 
-// The text as it is read, with other bytes behind it.
+/// The text as it is read, with other bytes behind it.
 fn designated(text: &[u8]) -> Result<[u8; LONGEST], TimeFault>
     ensures read { IfOk result (λ room. take (length text.now) room ≡ with_designator text.now) }
     ensures short { IfOk result (λ room. length text.now ≤ 64) }
@@ -31,7 +32,7 @@ fn designated(text: &[u8]) -> Result<[u8; LONGEST], TimeFault>
     Ok(room)
 }
 
-// The bytes as text.
+/// The bytes as text.
 fn text_of(bytes: &[u8]) -> Result<&str, TimeFault>
     ensures same { IfOk result (λ text. text.now ≡ bytes.now) }
     ensures utf8 { IfOk result (λ text. IsUtf8 bytes.now) }
@@ -44,7 +45,7 @@ fn text_of(bytes: &[u8]) -> Result<&str, TimeFault>
     }
 }
 
-// The nanosecond of an instant.
+/// The nanosecond of an instant.
 fn instant(text: &str) -> Result<i128, TimeFault>
     ensures read { IfOk result (IsInstant text.now) }
     ensures refused { IfErr result (λ fault. IsNoInstant text.now) }
@@ -56,7 +57,7 @@ fn instant(text: &str) -> Result<i128, TimeFault>
     }
 }
 
-// The nanosecond of a date and a time of day in UTC.
+/// The nanosecond of a date and a time of day in UTC.
 fn civil(text: &str) -> Result<i128, TimeFault>
     ensures read { IfOk result (IsCivil text.now) }
     ensures refused { IfErr result (λ fault. IsNoCivil text.now) }
@@ -68,7 +69,7 @@ fn civil(text: &str) -> Result<i128, TimeFault>
     }
 }
 
-// The nanosecond as ticks.
+/// The nanosecond as ticks.
 fn in_range(nanosecond: i128) -> Result<i64, TimeFault>
     ensures same { IfOk result (λ ticks. ticks ≡ nanosecond) }
     ensures small { IfOk result (λ ticks. unsigned_abs nanosecond ≤ most_ticks) }
@@ -82,7 +83,7 @@ fn in_range(nanosecond: i128) -> Result<i64, TimeFault>
     Ok(nanosecond as i64)
 }
 
-// The ticks of an instant.
+/// The ticks of an instant.
 pub(crate) fn instant_ticks(text: &[u8]) -> Result<i64, TimeFault>
     ensures accepted { IfOk result (IsCalendar IsInstant text.now) }
     ensures refused { IfErr result (CalendarRefuses IsInstant IsNoInstant text.now) }
@@ -92,7 +93,7 @@ pub(crate) fn instant_ticks(text: &[u8]) -> Result<i64, TimeFault>
     in_range(instant(text_of(&room[..text.len()])?)?)
 }
 
-// The ticks of a date and a time of day in UTC.
+/// The ticks of a date and a time of day in UTC.
 pub(crate) fn civil_ticks(text: &[u8]) -> Result<i64, TimeFault>
     ensures accepted { IfOk result (IsCalendar IsCivil text.now) }
     ensures refused { IfErr result (CalendarRefuses IsCivil IsNoCivil text.now) }

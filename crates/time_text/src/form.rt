@@ -1,3 +1,5 @@
+//! How times are written, and why a text is refused as one.
+
 use thiserror::Error;
 
 /// The greatest size of a time in ticks, 9·10^18.

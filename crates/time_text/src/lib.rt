@@ -9,7 +9,7 @@ mod read;
 mod trim;
 
 pub use form::{MOST_TICKS, TimeFault, TimeForm};
-pub use read::{one_answer, ticks};
+pub use read::{an_answer, one_answer, ticks};
 pub use trim::trimmed_text;
 
 #[cfg(test)]

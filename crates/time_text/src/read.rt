@@ -1,5 +1,6 @@
+//! Time texts as ticks.
 ghost use Rattle.std.specs.Prelude.{◌≡◌, ℕ, ℤ, List, Result, IfOk, IfErr, IsErrOf};
-ghost use Rattle.time_text.specs.Ticks.{IsTicks, Refuses, IsAnswer};
+ghost use Rattle.time_text.specs.Ticks.{IsTrimmedTicks, RefusesTrimmed, Reads, Spells, Refuses};
 
 use crate::calendar::{civil_ticks, instant_ticks};
 use crate::form::{TimeFault, TimeForm};
@@ -29,12 +30,37 @@ use std::alloc::Global;
 ///   where ticks are counted from 1970.
 /// - [`TimeFault::Memory`] never, for now: nothing is allocated.
 pub fn ticks(alloc: Global, form: TimeForm, text: &[u8]) -> Result<i64, TimeFault>
-    ensures accepted { IfOk result (λ t. IsTicks form text.now t) }
+    ensures accepted { IfOk result (Spells form text.now) }
     ensures refused { IfErr result (Refuses form text.now) }
+    ensures only { (answer : Result ℤ TimeFault) → Reads form text.now answer → result ≡ answer }
     ensures no_allocation { ¬ IsErrOf result TimeFault.Memory }
 {
     let _ = alloc;
-    let text = trimmed_text(text);
+    // The law behind `only`; it does nothing.
+    one_answer();
+    trimmed_ticks(form, trimmed_text(text))
+}
+
+/// A text has one answer only: one number of ticks, or one reason why it has none.
+pub fn one_answer()
+    ensures { (form : TimeForm) (text : List ℕ) (one other : Result ℤ TimeFault) → Reads form text one → Reads form text other → one ≡ other }
+{
+    fix_point::one_answer();
+}
+
+/// Every text has an answer: a number of ticks, or a reason why it has none.
+pub fn an_answer(form: TimeForm, text: &[u8])
+    ensures { (answer : Result ℤ TimeFault) × Reads form text.now answer }
+{
+    let _answer = trimmed_ticks(form, trimmed_text(text));
+}
+
+/// The ticks of a text without blanks at its ends.
+fn trimmed_ticks(form: TimeForm, text: &[u8]) -> Result<i64, TimeFault>
+    ensures accepted { IfOk result (IsTrimmedTicks form text.now) }
+    ensures refused { IfErr result (RefusesTrimmed form text.now) }
+    ensures no_allocation { ¬ IsErrOf result TimeFault.Memory }
+{
     match form {
         TimeForm::Sec => number_ticks(text, 9),
         TimeForm::Milli => number_ticks(text, 6),
@@ -43,11 +69,4 @@ pub fn ticks(alloc: Global, form: TimeForm, text: &[u8]) -> Result<i64, TimeFaul
         TimeForm::Instant => instant_ticks(text),
         TimeForm::Civil => civil_ticks(text),
     }
-}
-
-/// A text has one answer only: one number of ticks, or one reason why it has none.
-pub fn one_answer()
-    ensures { (form : TimeForm) (text : List ℕ) (one other : Result ℤ TimeFault) → IsAnswer form text one → IsAnswer form text other → one ≡ other }
-{
-    fix_point::one_answer();
 }

@@ -54,7 +54,7 @@ fn numbers_that_are_no_ticks_are_told_apart(rt: HostRuntime) {
     }
 }
 
-// The ticks are those of Python's `datetime`, which has no second 60.
+/// The ticks are those of Python's `datetime`, which has no second 60.
 #[test]
 fn instants_are_read_with_their_offset(rt: HostRuntime) {
     for (text, want) in [
@@ -117,55 +117,4 @@ fn calendar_texts_that_are_no_ticks_are_told_apart(rt: HostRuntime) {
             "{text}"
         );
     }
-}
-
-#[test]
-fn blanks_at_both_ends_are_left_out_in_every_form(rt: HostRuntime) {
-    for (form, text, want) in [
-        (TimeForm::Sec, "\t 1 \t", 1_000_000_000),
-        (TimeForm::Milli, " 1\t", 1_000_000),
-        (TimeForm::Micro, "\t1 ", 1_000),
-        (TimeForm::Nano, "  1  ", 1),
-        (
-            TimeForm::Instant,
-            " \t1970-01-01 00:00:01Z\t ",
-            1_000_000_000,
-        ),
-        (TimeForm::Civil, "\t1970-01-01 00:00:01 ", 1_000_000_000),
-    ] {
-        assert_eq!(rt;
-            ticks(rt.alloc(), form, text.as_bytes()),
-            Ok(want),
-            "{text}"
-        );
-    }
-}
-
-#[test]
-fn a_text_has_at_most_64_bytes_between_its_blanks(rt: HostRuntime) {
-    let longest = b" 1970-01-01T00:00:01Z[u-ca=aaaaaaaaaaaaaaaaaaaaaaaaaaaaaaaaaaaaa] ";
-    assert_eq!(rt; longest.len(), 64 + 2);
-    assert_eq!(rt;
-        ticks(rt.alloc(), TimeForm::Instant, longest),
-        Ok(1_000_000_000)
-    );
-
-    let longer = b"1970-01-01T00:00:01Z[u-ca=aaaaaaaaaaaaaaaaaaaaaaaaaaaaaaaaaaaaaa]";
-    assert_eq!(rt; longer.len(), 65);
-    assert_eq!(rt;
-        ticks(rt.alloc(), TimeForm::Instant, longer),
-        Err(TimeFault::NotTime)
-    );
-}
-
-#[test]
-fn bytes_that_are_no_text_are_no_time(rt: HostRuntime) {
-    assert_eq!(rt;
-        ticks(rt.alloc(), TimeForm::Civil, b"2024-05-01\xff"),
-        Err(TimeFault::NotTime)
-    );
-    assert_eq!(rt;
-        ticks(rt.alloc(), TimeForm::Sec, b"\xff"),
-        Err(TimeFault::NotTime)
-    );
 }

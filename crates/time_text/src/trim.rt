@@ -1,13 +1,16 @@
+//! Texts without the blanks at their ends.
 ghost use Rattle.std.specs.Prelude.{◌≡◌};
 ghost use Rattle.fix_point.specs.Grammar.{is_blank};
 ghost use Rattle.time_text.specs.Trimmed.{without_leading_blanks, without_trailing_blanks, trimmed};
 
+/// Whether the byte is a space or a tab.
 fn is_blank_byte(byte: u8) -> bool
     ensures { result ≡ is_blank byte }
 {
     byte == b' ' || byte == b'\t'
 }
 
+/// The text without the blanks before its first other byte.
 fn without_leading(text: &[u8]) -> &[u8]
     ensures { result.now ≡ without_leading_blanks text.now }
 {
@@ -21,6 +24,7 @@ fn without_leading(text: &[u8]) -> &[u8]
     rest
 }
 
+/// The text without the blanks after its last other byte.
 fn without_trailing(text: &[u8]) -> &[u8]
     ensures { result.now ≡ without_trailing_blanks text.now }
 {

@@ -1,6 +1,6 @@
 use Rattle.std.proofs.Common.{◌≡◌, length}
 use Rattle.fix_point.specs.Grammar.{is_blank}
-use Rattle.fix_point.specs.Reading.{after_front}
+use Rattle.fix_point.specs.PartsOf.{after_front}
 use Rattle.fix_point.proofs.number.after_blanks.Given as goal
 
 abbrev pub invariant-loop-rest : goal.invariant-loop-rest

@@ -4,7 +4,7 @@ use Rattle.std.specs.Str.Parse.{digits_value, digits_value_after}
 use Rattle.std.proofs.lemmas.List.{nil_from_length}
 use Rattle.std.proofs.lemmas.Bool.{eqb-true, eqb-false}
 use Rattle.fix_point.specs.Grammar.{is_blank, fraction_digits, IsExponent}
-use Rattle.fix_point.specs.Reading.{front, after_front, sign_of, is_minus, after_sign, fraction_of, after_fraction, exponent_of, after_exponent, at_whole, at_fraction, at_exponent, AreTensOf}
+use Rattle.fix_point.specs.PartsOf.{front, after_front, sign_of, is_minus, after_sign, fraction_of, after_fraction, exponent_of, after_exponent, at_whole, at_fraction, at_exponent, AreTensOf}
 use Rattle.fix_point.proofs.Numbers.{passes_tests, is_number_text, number_found, digits_inside}
 use Rattle.fix_point.proofs.number.number_of.Goals as goal
 use Rattle.fix_point.proofs.number.number_of.Goals.{then-digits-eq0-via-then-digits-eq0, then-digits-eq0-via-else-digits-eq0+then-digits-gt-MOST_DIGITS, then-digits-eq0-via-else-digits-eq0+else-digits-gt-MOST_DIGITS+then-not-is_empty}

@@ -3,7 +3,7 @@ use Rattle.toml.specs.Data.{get_member}
 use Rattle.toml.specs.View.{view, table_view}
 use Rattle.toml.proofs.Views.{table_get}
 use Rattle.rule_keys.specs.declared.key.TableKind.TheVariants.{Format}
-use Rattle.rule_keys.specs.Reading.{HasOnly}
+use Rattle.rule_keys.specs.Table.{HasOnly}
 use Rattle.rule_file.specs.Document.{kind_text, table_texts}
 use Rattle.rule_file.proofs.Whole.{no_format, no_table, a_table}
 use Rattle.rule_file.proofs.document.document_rules.Goals as goal

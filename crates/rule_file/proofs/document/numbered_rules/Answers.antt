@@ -1,3 +1,4 @@
+use Rattle.std.proofs.Common.{Err, ap}
 use Rattle.std.proofs.lemmas.Result.{err_from_is_err_and}
 use Rattle.rule_file.specs.Meaning.{scale_of}
 use Rattle.rule_file.proofs.Reach.{same_scale, reads_scaled, speeds_reach, drifts_reach}
@@ -9,7 +10,7 @@ returns-in_err-draft c =
     rw (p.1, p.2)
     (λ other. reads_scaled c.scale_of.result (scale_of c.args.format.now) _ _
     (same_scale c.args.format.now c.in-Ok.format c.scale_of.result c.in-Ok.ensures c.scale_of.ensures.decimals c.scale_of.ensures.form)
-    (c.in_err-draft.ensures.refused other))
+    (c.in_err-draft.ensures.refused (λ same. other (ap Err same))))
 
 pub invariant_of-result : goal.invariant_of-result
 invariant_of-result c =
@@ -22,7 +23,8 @@ invariant_of-result c =
 
 pub returns : goal.returns
 returns c =
-    let found = c.in_ok-draft.ensures.accepted in (
+    let found = c.in_ok-draft.ensures.accepted in
+    λ _. (
       c.in-Ok.ensures,
       found.0,
       reads_scaled c.scale_of.result (scale_of c.args.format.now) _ _

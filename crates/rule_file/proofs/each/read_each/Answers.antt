@@ -8,7 +8,7 @@ returns-in_err-read_rule-clause-refused c =
     let p = err_from_is_err_and c.from_residual.result c.from_residual.ensures.1 in
     rw (p.1, p.2)
     (λ other. each_stop c.args.scale c.loop-place.place c.args.tables.now c.index-tables-place.result _ _ (omega arith) c.index-tables-place.is c.loop-place.invariant.3
-    (c.in_err-read_rule.ensures.refused other) (c.in_err-read_rule.ensures.number other))
+    (c.in_err-read_rule.ensures.refused other).0 (c.in_err-read_rule.ensures.refused other).1 (c.in_err-read_rule.ensures.refused other).2)
 
 pub loop-place-preserved : goal.loop-place-preserved
 loop-place-preserved c =

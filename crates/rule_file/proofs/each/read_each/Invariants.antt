@@ -1,6 +1,6 @@
 use Rattle.std.proofs.Common.{◌+◌, ◌≤◌, List, map, drop}
 use Rattle.rule_keys.specs.declared.key.TableKind.{TableKind}
-use Rattle.rule_file.specs.Continues.{Continues}
+use Rattle.rule_file.proofs.Continues.{Continues}
 use Rattle.rule_file.specs.Draft.{AreDraftOf, count_in}
 use Rattle.rule_file.specs.Meaning.{Entries}
 use Rattle.rule_file.specs.Tables.{seen}

@@ -1,5 +1,5 @@
 use Rattle.toml.specs.View.{members_view, table_view}
-use Rattle.rule_keys.specs.Reading.{HasOnly}
+use Rattle.rule_keys.specs.Table.{HasOnly}
 use Rattle.rule_file.specs.Document.{table_texts}
 use Rattle.rule_file.proofs.tables.has_known_keys.Given as goal
 

@@ -1,4 +1,4 @@
--- Rules that are read one after the other.
+-- For proofs: rules that are read one after the other.
 use Rattle.std.specs.Prelude.{ℕ, List, ◌++◌, Ok, Err}
 use Rattle.toml.specs.Data.{Members}
 use Rattle.rule_keys.specs.declared.key.TableKind.{TableKind}

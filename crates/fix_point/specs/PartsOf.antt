@@ -1,4 +1,4 @@
--- How a text is read: the only parts that it can have.
+-- For proofs: the only parts that a text can have, as the code finds them from the front.
 use Rattle.std.specs.Prelude.{◌≡◌, ℕ, ◌+◌, ◌<◌, ◌^◌, Bool, true, false, ◌||◌, ◌==◌, ℤ, pos, neg_ℤ, if◌then◌else◌, List, [], ◌∷◌, length}
 use Rattle.std.specs.Char.{is_ascii_digit}
 use Rattle.std.specs.Str.Parse.{digits_value}

@@ -50,6 +50,7 @@ pub(crate) fn place_of(choice: Choice, word: &str) -> Option<usize>
     place_among(words_of(choice), word)
 }
 
+/// The place of a word among words, counted from 0.
 fn place_among(words: &[&str], word: &str) -> Option<usize>
     ensures { result ≡ position (λ other. bytes_eq other.now word.now) words.now }
 {
