@@ -14,7 +14,8 @@ use Rattle.series_csv.specs.declared.fault.TableCause.TheVariants.{NotBuilt, Fil
 use Rattle.series_csv.specs.declared.fault.TableFault.{TableFault}
 use Rattle.series_csv.specs.Rows.{IsSmall, values}
 use Rattle.series_csv.specs.Text.{header_text, row_text, rows_text}
-use Rattle.series_csv.specs.Reading.{Spells, HasCause, IsAnswer}
+use Rattle.series_csv.specs.ReadingsFile.{Spells, HasCause, Reads}
+use Rattle.series_csv.specs.Fault.{of_the_file}
 
 -- ---- fields that end at a byte that is not theirs
 
@@ -93,26 +94,22 @@ one_spelled : (sensor bytes : List ℕ) (rows others : List Row) → Spells sens
 one_spelled sensor bytes rows others p q =
     one_text rows others p.each.small q.each.small (append_cancel_left (header_text sensor) (rows_text rows (values rows)) (rows_text others (values others)) (sym p.text ∙ q.text))
 
-not_both : (sensor bytes : List ℕ) (rows : List Row) (cause : TableCause) → cause ≢ Memory → Spells sensor bytes rows → HasCause sensor bytes cause → ⊥
-not_both sensor bytes rows NotBuilt some p q = q.1 rows p
-not_both sensor bytes rows FileTooLong some p q = omega (arith, p.short, q)
-not_both sensor bytes rows Memory some p q = some refl
+not_both : (sensor bytes : List ℕ) (rows : List Row) (cause : TableCause) → Spells sensor bytes rows → HasCause sensor bytes cause → ⊥
+not_both sensor bytes rows NotBuilt p q = q.1 rows p
+not_both sensor bytes rows FileTooLong p q = omega (arith, p.short, q)
+not_both sensor bytes rows Memory p q = q
 
-one_cause : (sensor bytes : List ℕ) (one other : TableCause) → one ≢ Memory → other ≢ Memory → HasCause sensor bytes one → HasCause sensor bytes other → one ≡ other
-one_cause sensor bytes NotBuilt NotBuilt some more p q = refl
-one_cause sensor bytes NotBuilt FileTooLong some more p q = absurd (omega (arith, p.0, q))
-one_cause sensor bytes NotBuilt Memory some more p q = absurd (more refl)
-one_cause sensor bytes FileTooLong NotBuilt some more p q = absurd (omega (arith, p, q.0))
-one_cause sensor bytes FileTooLong FileTooLong some more p q = refl
-one_cause sensor bytes FileTooLong Memory some more p q = absurd (more refl)
-one_cause sensor bytes Memory other some more p q = absurd (some refl)
+one_cause : (sensor bytes : List ℕ) (one other : TableCause) → HasCause sensor bytes one → HasCause sensor bytes other → one ≡ other
+one_cause sensor bytes NotBuilt NotBuilt p q = refl
+one_cause sensor bytes NotBuilt FileTooLong p q = absurd (omega (arith, p.0, q))
+one_cause sensor bytes NotBuilt Memory p q = absurd q
+one_cause sensor bytes FileTooLong NotBuilt p q = absurd (omega (arith, p, q.0))
+one_cause sensor bytes FileTooLong FileTooLong p q = refl
+one_cause sensor bytes FileTooLong Memory p q = absurd q
+one_cause sensor bytes Memory other p q = absurd p
 
-same_fault : (one other : TableFault) → one.cause ≡ other.cause → one.row ≡ other.row → one.col ≡ other.col → one ≡ other
-same_fault one other cause row col = λ i. record { cause = cause i; row = row i; col = col i }
-
-pub table_one : (sensor bytes : List ℕ) (one other : Result (List Row) TableFault) → IsAnswer sensor bytes one → IsAnswer sensor bytes other → one ≡ other
+pub table_one : (sensor bytes : List ℕ) (one other : Result (List Row) TableFault) → Reads sensor bytes one → Reads sensor bytes other → one ≡ other
 table_one sensor bytes (Ok rows) (Ok others) p q = ap Ok (one_spelled sensor bytes rows others p q)
-table_one sensor bytes (Ok rows) (Err fault) p q = absurd (not_both sensor bytes rows fault.cause q.0 p q.1.cause)
-table_one sensor bytes (Err fault) (Ok rows) p q = absurd (not_both sensor bytes rows fault.cause p.0 q p.1.cause)
-table_one sensor bytes (Err one) (Err other) p q =
-    ap Err (same_fault one other (one_cause sensor bytes one.cause other.cause p.0 q.0 p.1.cause q.1.cause) (p.1.row ∙ sym q.1.row) (p.1.col ∙ sym q.1.col))
+table_one sensor bytes (Ok rows) (Err fault) p q = absurd (not_both sensor bytes rows q.0 p q.1)
+table_one sensor bytes (Err fault) (Ok rows) p q = absurd (not_both sensor bytes rows p.0 q p.1)
+table_one sensor bytes (Err one) (Err other) p q = ap Err (p.2 ∙ (ap of_the_file (one_cause sensor bytes p.0 q.0 p.1 q.1) ∙ sym q.2))

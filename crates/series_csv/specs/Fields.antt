@@ -1,4 +1,4 @@
--- A field at the front of some bytes: its value, and the bytes after it.
+-- For proofs: a field at the front of some bytes: its value, and the bytes after it.
 use Rattle.std.specs.Prelude.{◌≡◌, ℕ, ◌<◌, ℤ, negsuc, pos, ◌≤ℤ◌, List, ◌++◌, false, slice_index, decimal}
 use Rattle.std.specs.Char.{is_ascii_digit}
 use Rattle.std.specs.Fmt.{signed_decimal}
@@ -35,8 +35,8 @@ pub record AreLinesOf (lines : List ℕ) (rows : List Row) : Type 0 where
   pub each : AreRows rows
   pub text : lines ≡ rows_text rows (values rows)
 
--- what has the cause
+-- why the lines have no rows
 abbrev pub RefusesLines : List ℕ → TableCause → Type 0
 RefusesLines lines NotBuilt = (rows : List Row) → ¬ AreLinesOf lines rows
-RefusesLines lines Memory = Unit {0}
+RefusesLines lines Memory = ⊥
 RefusesLines lines FileTooLong = ⊥

@@ -1,4 +1,5 @@
+pub mod Fault
 pub mod Fields
-pub mod Reading
+pub mod ReadingsFile
 pub mod Rows
 pub mod Text

@@ -1,7 +1,8 @@
--- The rows of a table: a reading at a time, in whole numbers.
+-- To be believed: the rows of a table: a reading at a time, in whole numbers.
 use Rattle.std.specs.Prelude.{ℕ, ◌+◌, ◌<◌, ◌≤◌, ℤ, negsuc, pos, ◌≤ℤ◌, List, [], ◌∷◌, length, map}
 use Rattle.std.specs.List.{AllByRecursion}
 use Rattle.screen_model.specs.declared.place.Place.{Place}
+use Rattle.series_csv.specs.declared.read.TheConstants.{MOST_ROWS}
 use Rattle.series_csv.specs.declared.table.Row.{Row}
 
 -- at most nine digits each
@@ -17,7 +18,7 @@ Rises (row ∷ []) = Unit {0}
 Rises (row ∷ next ∷ rows) = (row.seconds < next.seconds) × Rises (next ∷ rows)
 
 pub record AreRows (rows : List Row) : Type 0 where
-  pub few : length rows ≤ 1000
+  pub few : length rows ≤ MOST_ROWS
   pub small : AllByRecursion IsSmall rows
   pub rise : Rises rows
 

@@ -1,4 +1,4 @@
--- The text of a table.
+-- To be believed: the text of a table.
 use Rattle.std.specs.Prelude.{ℕ, ℤ, List, [], ◌∷◌, ◌++◌, codes, decimal}
 use Rattle.std.specs.Fmt.{signed_decimal}
 use Rattle.series_csv.specs.declared.table.Row.{Row}

@@ -1,3 +1,7 @@
+//! Why a readings file is refused.
+ghost use Rattle.std.specs.Prelude.{◌≡◌};
+ghost use Rattle.series_csv.specs.Fault.{of_the_file};
+
 use thiserror::Error;
 
 /// Why a readings file is refused.
@@ -24,4 +28,17 @@ pub struct TableFault {
     pub row: u32,
     /// The column, counted from 1, and 0 where none is concerned.
     pub col: u32,
+}
+
+impl TableFault {
+    /// A fault of no row and no column.
+    pub fn of_the_file(cause: TableCause) -> TableFault
+        ensures { result ≡ of_the_file cause }
+    {
+        TableFault {
+            cause,
+            row: 0,
+            col: 0,
+        }
+    }
 }

@@ -1,3 +1,4 @@
+//! Fields and lines at the front of some bytes.
 ghost use Rattle.std.specs.Prelude.{◌≡◌, ℕ, ℤ, List, ◌++◌, IfSome, IsSomeAnd};
 ghost use Rattle.series_csv.specs.declared.table.Row.{Row};
 ghost use Rattle.series_csv.specs.Fields.{IsNumberThen, IsValueThen, IsRowThen};

@@ -1,6 +1,9 @@
-ghost use Rattle.std.specs.Prelude.{◌≡◌, ◌++◌, ℕ, List, Result, ◌∷◌, [], IfOk, IfErr, IfSome, IsSomeAnd, IsTrue, ◌↔◌};
+//! The bytes of a readings file.
+ghost use Rattle.std.specs.Prelude.{◌≡◌, ◌≢◌, ◌<◌, length, ◌++◌, ℕ, List, Result, ◌∷◌, [], IfOk, IfErr, IfSome, IsSomeAnd, IsTrue, ◌↔◌};
 ghost use Rattle.series_csv.specs.Fields.{AreLinesOf, RefusesLines};
-ghost use Rattle.series_csv.specs.Reading.{Spells, Refuses, HasCause, IsAnswer};
+ghost use Rattle.words.specs.Answers.{UnlessMemory};
+ghost use Rattle.series_csv.specs.Fault.{of_the_file};
+ghost use Rattle.series_csv.specs.ReadingsFile.{Reads, Spells, Refuses, HasCause};
 ghost use Rattle.series_csv.specs.Rows.{Rises};
 ghost use Rattle.series_csv.specs.Text.{header_text};
 
@@ -10,36 +13,43 @@ use crate::table::{Row, Table};
 use sequence::Sequence;
 use std::alloc::Global;
 
-/// The greatest number of bytes of a readings file.
+/// The most bytes of a readings file.
 pub const LONGEST: usize = 268_435_456;
 
 /// The most rows of a table.
 const MOST_ROWS: usize = 1_000;
 
 /// The table of a readings file whose sensor has this name, or why there is none.
+///
+/// # Errors
+///
+/// Of no row and no column, in this order: `FileTooLong`, for which no memory is taken; `NotBuilt`, for a file that
+/// no rows have as their text. `Memory` may come where the file is not too long.
 pub fn read_table(alloc: Global, sensor: &[u8], bytes: &[u8]) -> Result<Table, TableFault>
     ensures accepted { IfOk result (Spells sensor.now bytes.now) }
-    ensures refused { IfErr result (Refuses sensor.now bytes.now) }
+    ensures refused { IfErr result (λ fault. fault ≢ of_the_file TableCause.Memory → Refuses sensor.now bytes.now fault) }
+    ensures only { (answer : Result (List Row) TableFault) → Reads sensor.now bytes.now answer →
+        UnlessMemory (of_the_file TableCause.Memory) (λ given. given ≡ answer) result }
+    ensures too_long { LONGEST < length bytes.now → result ≡ Err (of_the_file TableCause.FileTooLong) }
 {
+    // The law behind `only`; it does nothing.
+    one_answer();
     match table_of(alloc, sensor, bytes) {
         Ok(table) => Ok(table),
-        Err(cause) => Err(TableFault {
-            cause,
-            row: 0,
-            col: 0,
-        }),
+        Err(cause) => Err(TableFault::of_the_file(cause)),
     }
 }
 
 /// A readings file has one answer only: its rows, or its fault.
 pub fn one_answer()
-    ensures { (sensor bytes : List ℕ) (one other : Result (List Row) TableFault) → IsAnswer sensor bytes one → IsAnswer sensor bytes other → one ≡ other }
+    ensures { (sensor bytes : List ℕ) (one other : Result (List Row) TableFault) → Reads sensor bytes one → Reads sensor bytes other → one ≡ other }
 {}
 
 /// The table, or the cause that keeps the file from having one.
-pub(crate) fn table_of(alloc: Global, sensor: &[u8], bytes: &[u8]) -> Result<Table, TableCause>
+fn table_of(alloc: Global, sensor: &[u8], bytes: &[u8]) -> Result<Table, TableCause>
     ensures accepted { IfOk result (Spells sensor.now bytes.now) }
-    ensures refused { IfErr result (HasCause sensor.now bytes.now) }
+    ensures refused { IfErr result (λ cause. cause ≢ TableCause.Memory → HasCause sensor.now bytes.now cause) }
+    ensures too_long { LONGEST < length bytes.now → result ≡ Err TableCause.FileTooLong }
 {
     if bytes.len() > LONGEST {
         return Err(TableCause::FileTooLong);
@@ -65,7 +75,7 @@ fn after_header<'a>(sensor: &[u8], bytes: &'a [u8]) -> Option<&'a [u8]>
 /// The rows whose lines these are, all of the bytes, or why there are none.
 fn rows_of(alloc: Global, lines: &[u8]) -> Result<Sequence<Row>, TableCause>
     ensures accepted { IfOk result (λ rows. AreLinesOf lines.now rows) }
-    ensures refused { IfErr result (RefusesLines lines.now) }
+    ensures refused { IfErr result (λ cause. cause ≢ TableCause.Memory → RefusesLines lines.now cause) }
 {
     let mut rows = Sequence::new(alloc);
     let mut rest = lines;

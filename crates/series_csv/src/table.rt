@@ -1,3 +1,4 @@
+//! A table, as the list of its rows.
 ghost use Rattle.std.specs.Prelude.{◌≡◌, IfOk};
 ghost use Rattle.series_csv.specs.Rows.{AreRows, places, values};
 
@@ -18,6 +19,7 @@ pub struct Row {
 /// A readings file: the rows in order, each later than the one before it.
 #[derive(Drop)]
 pub struct Table {
+    /// The rows in order.
     rows: Sequence<Row>,
 }
 

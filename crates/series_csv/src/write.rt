@@ -1,3 +1,4 @@
+//! The text of a table.
 ghost use Rattle.std.specs.Prelude.{◌≡◌, ◌++◌, codes, decimal, length, IfOk, OnOk};
 ghost use Rattle.std.specs.Fmt.{signed_decimal};
 ghost use Rattle.series_csv.specs.Text.{header_text, row_text, table_text as text_of_table};
@@ -22,7 +23,7 @@ pub fn table_text(
 }
 
 /// The text of these rows with these values.
-pub(crate) fn text_of(
+fn text_of(
     alloc: Global,
     sensor: &[u8],
     rows: &[Row],

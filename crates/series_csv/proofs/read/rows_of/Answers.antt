@@ -7,12 +7,12 @@ use Rattle.series_csv.proofs.read.rows_of.Goals.{then-len-eq-MOST_ROWS-via-then-
 pub returns-in_default-clause-refused : goal.returns-in_default-clause-refused
 returns-in_default-clause-refused c =
     let some : c.loop-rest.rest.now ≢ [] = not_empty c.loop-rest.rest.now c.is_empty.result c.is_empty.ensures c.loop-rest-test.true in
-    no_row c.args.lines.now c.loop-rest.rows c.loop-rest.rest.now c.loop-rest.invariant some c.in_default.ensures.only
+    λ _. no_row c.args.lines.now c.loop-rest.rows c.loop-rest.rest.now c.loop-rest.invariant some c.in_default.ensures.only
 
 pub returns-then-len-eq-MOST_ROWS-clause-refused : goal.returns-then-len-eq-MOST_ROWS-clause-refused
 returns-then-len-eq-MOST_ROWS-clause-refused c =
     let some : c.loop-rest.rest.now ≢ [] = not_empty c.loop-rest.rest.now c.is_empty.result c.is_empty.ensures c.loop-rest-test.true in
-    elim c.then-len-eq-MOST_ROWS.branch [
+    λ _. elim c.then-len-eq-MOST_ROWS.branch [
       | then-len-eq-MOST_ROWS-via-then-len-eq-MOST_ROWS w ↦ too_many c.args.lines.now c.loop-rest.rows c.loop-rest.rest.now c.loop-rest.invariant some (omega arith)
       | then-len-eq-MOST_ROWS-via-else-len-eq-MOST_ROWS+then-not-comes_after w ↦ no_rise c.args.lines.now c.loop-rest.rows c.loop-rest.rest.now c.in-Some.row c.in-Some.after.now c.loop-rest.invariant c.in-Some.ensures.only some (subst (λ rows. ¬ Rises (rows ++ c.in-Some.row ∷ [])) w.as_slice.ensures (refused_by w.comes_after.result _ w.comes_after.ensures.1 w.if-not-comes_after.true))
     ]
