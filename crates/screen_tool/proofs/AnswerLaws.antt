@@ -1,10 +1,11 @@
 -- The laws of what commands answer.
 use Rattle.std.proofs.Common.{◌≡◌, ◌≢◌, inl, inr, ℕ, List, Option, Some, None, Result, Ok, Err, refl, sym, ap, subst, ◌∙◌, length, ◌≤◌}
 use Rattle.rule_file.specs.declared.fault.RuleFault.{RuleFault}
-use Rattle.rule_file.specs.Reading.{longest as longest_rules}
+use Rattle.rule_file.specs.declared.read.TheConstants.{LONGEST as longest_rules}
 use Rattle.series_csv.specs.declared.fault.TableFault.{TableFault}
 use Rattle.series_csv.specs.declared.table.Row.{Row}
-use Rattle.series_csv.specs.Reading.{longest as longest_readings, IsAnswer as ReadsReadings}
+use Rattle.series_csv.specs.declared.read.TheConstants.{LONGEST as longest_readings}
+use Rattle.series_csv.specs.ReadingsFile.{Reads as ReadsReadings}
 use Rattle.screen_tool.specs.declared.command.Command.{Command}
 use Rattle.screen_tool.specs.declared.command.Command.TheVariants.{Global}
 use Rattle.screen_tool.specs.declared.ends.Inputs.{Inputs}
@@ -15,7 +16,7 @@ use Rattle.screen_tool.specs.Answer.{Extent, Whole, Begun, Unread, Answer, After
 use Rattle.screen_tool.specs.Answers.{Answers, OneEnding, RestsOnRead, usage}
 use Rattle.screen_tool.specs.Files.{RulesAreOne, ReadingsAreOne, AfterRules, AfterReadings, rules_too_long, rules_refused, readings_too_long, readings_refused}
 use Rattle.screen_tool.specs.Global.{AnswersGlobal, AnswersRows, ReadingsObey, unchanged, needs_repair}
-use Rattle.screen_tool.specs.Narrow.{IsAnswer as ReadsRules}
+use Rattle.screen_tool.specs.Narrow.{Reads as ReadsRules}
 use Rattle.screen_tool.proofs.AfterFile.{after_accepted, after_has, after_one, after_rests}
 
 -- ---- what every answer of `global` has

@@ -1,5 +1,6 @@
 -- The bounds over the rows of a table are kept exactly where the readings meet the speed constraint.
-use Rattle.std.proofs.Common.{◌≡◌, ℕ, zero, suc, ◌+◌, ◌-◌, ◌*◌, ◌<◌, ◌≤◌, ◌↔◌, ◌==◌, true, false, ℤ, pos, negsuc, neg_ℤ, ◌-ℤ◌, ◌*ℤ◌, ◌≤ℤ◌, List, [], ◌∷◌, ◌++◌, refl, ap, ⊎_elim, sym, ◌∙◌, arith}
+use Rattle.std.proofs.Common.{◌≡◌, ℕ, zero, suc, ◌+◌, ◌-◌, ◌*◌, ◌<◌, ◌≤◌, ◌↔◌, ◌==◌, true, false, ℤ, pos, negsuc, neg_ℤ, ◌-ℤ◌, ◌*ℤ◌, ◌≤ℤ◌, List, [], ◌∷◌, ◌++◌, refl, ap, ⊎_elim, subst, sym, ◌∙◌, arith}
+use Rattle.std.specs.Int.{int_div_euclid}
 use Rattle.std.specs.List.{AllByRecursion}
 use Rattle.std.proofs.Math.IntN.{neg_ℤ-neg_ℤ, *ℤ_comm}
 use Rattle.std.proofs.lemmas.Int.{ints}
@@ -14,8 +15,12 @@ use Rattle.series_csv.specs.Rows.{AreRows, IsSmall, Rises, places_from, places, 
 use Rattle.screen_tool.specs.declared.speed.WholeSpeed.{WholeSpeed}
 use Rattle.screen_tool.specs.Bounds.{bounds, size_bounds, speed_bounds, later_bounds, pair_bounds, is_within, place_in, greatest_step, least_step}
 use Rattle.screen_tool.specs.Changes.{ChangesWithin, ChangesAllWithin, MeetsSpeed}
-use Rattle.screen_tool.proofs.Floor.{at_most_floor}
+use Rattle.words.proofs.Products.{at_most_floor as at_most_floor_of}
 use Rattle.screen_tool.proofs.Rising.{rises_without}
+
+-- a change is at most a quotient that is rounded down exactly where so many times the change are at most the dividend
+at_most_floor : (m d : ℤ) (p : ℕ) → 0 < p → (d ≤ℤ int_div_euclid m (pos p)) ↔ ((pos p *ℤ d) ≤ℤ m)
+at_most_floor m d p h = subst (λ (n : ℤ). (d ≤ℤ int_div_euclid m (pos p)) ↔ (n ≤ℤ m)) (*ℤ_comm d (pos p)) (at_most_floor_of m d p h)
 
 -- P holds of each member of two lists, one after the other, exactly where it does of each of both
 pub all_append : {X : Type 0} (P : X → Type 0) (xs ys : List X) → AllByRecursion P (xs ++ ys) ↔ (AllByRecursion P xs × AllByRecursion P ys)

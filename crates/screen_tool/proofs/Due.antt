@@ -2,11 +2,14 @@
 use Rattle.std.proofs.Common.{◌≡◌, ◌≢◌, ◌⊎◌, inl, inr, ℕ, ◌≤◌, ◌<◌, List, [], ◌++◌, length, Option, Some, None, Result, Ok, Err, refl, sym, ap, subst, ◌∙◌}
 use Rattle.std.proofs.lemmas.List.{append-nil}
 use Rattle.rule_file.specs.declared.rules.Rules.{Rules}
-use Rattle.rule_file.specs.Reading.{longest as longest_rules, ReadsFile}
+use Rattle.rule_file.specs.declared.read.TheConstants.{LONGEST as longest_rules}
+use Rattle.rule_file.specs.File.{ReadsFile}
 use Rattle.series_csv.specs.declared.table.Row.{Row}
-use Rattle.series_csv.specs.Reading.{longest as longest_readings, IsAnswer as ReadsReadings}
+use Rattle.series_csv.specs.declared.read.TheConstants.{LONGEST as longest_readings}
+use Rattle.series_csv.specs.ReadingsFile.{Reads as ReadsReadings}
 use Rattle.screen_io.specs.Sink.{Gains}
 use Rattle.screen_io.specs.Source.{Takes, IsAtEnd}
+use Rattle.screen_io.proofs.WholeReads.{taken_front, taken_whole}
 use Rattle.screen_tool.specs.declared.command.Command.{Command}
 use Rattle.screen_tool.specs.declared.command.Command.TheVariants.{Global}
 use Rattle.screen_tool.specs.declared.ends.EndUse.{EndUse}
@@ -25,27 +28,18 @@ use Rattle.screen_tool.specs.Ending.{status_of, IsStatusFor}
 use Rattle.screen_tool.specs.Files.{RulesAreOne, ReadingsAreOne, AfterReadings, rules_too_long, rules_refused, readings_too_long, readings_refused}
 use Rattle.screen_tool.specs.Global.{AnswersGlobal, AnswersRows, ReadingsObey, unchanged, needs_repair, unchanged_cert, unchanged_text}
 use Rattle.screen_tool.specs.Headline.{IsApartFromFaults, RepairsNothing, Headline}
-use Rattle.screen_tool.specs.Narrow.{IsAnswer as ReadsRules}
+use Rattle.screen_tool.specs.Narrow.{Reads as ReadsRules}
 use Rattle.screen_tool.specs.Performance.{IsRead, AreRead, IsAnswered, LeavesSinks, IsWritten, AreWritten, Performs, AreTold, IsDue}
 use Rattle.screen_tool.proofs.AfterFile.{after_accepted}
 use Rattle.screen_tool.proofs.AnswerLaws.{global_has}
 
 -- ---- what came of a source is the front of what it told
 
-taken_front : (before now : Option (List ℕ)) (came bytes : List ℕ) → before ≡ Some bytes → Takes before came now → (rest : List ℕ) × (bytes ≡ came ++ rest) × (now ≡ Some rest)
-taken_front before now came bytes told takes = subst (λ (b : Option (List ℕ)). Takes b came now) told takes
-
-taken_whole : (before now : Option (List ℕ)) (came bytes : List ℕ) → before ≡ Some bytes → Takes before came now → IsAtEnd now → bytes ≡ came
-taken_whole before now came bytes told takes ends =
-    let found = taken_front before now came bytes told takes in
-    let empty : found.0 ≡ [] = subst (λ (n : Option (List ℕ)). IsAtEnd n) found.2 ends in
-    found.1 ∙ ap (λ (rest : List ℕ). came ++ rest) empty ∙ append-nil came
-
 module _ {S : Type 0} (left : S → Option (List ℕ)) (source_faults : S → ℕ) where
   front_read : (extent : Extent) (source now : S) (came bytes : List ℕ) → left source ≡ Some bytes → IsRead left source_faults extent source now came → AreFront extent came bytes
-  front_read Whole source now came bytes told read = taken_whole (left source) (left now) came bytes told read.0 read.1
+  front_read Whole source now came bytes told read = sym (taken_whole (left source) came (left now) bytes told read.0 read.1).0
   front_read Begun source now came bytes told read =
-      let found = taken_front (left source) (left now) came bytes told read.0 in (found.0, found.1)
+      let found = taken_front (left source) came (left now) bytes told read.0 in (found.0, found.1)
   front_read Unread source now came bytes told read = tt
 
   front : (role : EndUse) (extent : Extent) (source now : S) (came bytes : List ℕ) → (role ≡ Nothing → extent ≡ Unread)

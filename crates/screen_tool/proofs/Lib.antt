@@ -1,6 +1,5 @@
 pub mod WholeNumbers
 pub mod BoundLaws
-pub mod Floor
 pub mod Pairs
 pub mod Rising
 pub mod AfterFile

@@ -6,10 +6,10 @@ use Rattle.std.proofs.lemmas.Int.{ints}
 use Rattle.rule_file.specs.declared.fault.RuleFault.{RuleFault}
 use Rattle.rule_file.specs.declared.rules.SpeedRule.{SpeedRule}
 use Rattle.rule_file.specs.declared.rules.Rules.{Rules}
-use Rattle.rule_file.specs.Reading.{ReadsFile}
+use Rattle.rule_file.specs.File.{ReadsFile}
 use Rattle.screen_tool.specs.declared.speed.WholeSpeed.{WholeSpeed}
 use Rattle.screen_tool.specs.Limits.{IsWithinLimits}
-use Rattle.screen_tool.specs.Narrow.{IsWholeSpeed, IsNarrow, Spells, Refuses, IsAnswer}
+use Rattle.screen_tool.specs.Narrow.{IsWholeSpeed, IsNarrow, Reads}
 use Rattle.screen_tool.specs.Answer.{AreOne}
 
 -- what is proved of rule files
@@ -55,25 +55,25 @@ not_refused law bytes one fault p q = let same = law bytes (Ok one) (Err fault) 
 same_fault : FilesAreOne → (bytes : List ℕ) (one other : RuleFault) → ReadsFile bytes (Err one) → ReadsFile bytes (Err other) → one ≡ other
 same_fault law bytes one other p q = let same = law bytes (Err one) (Err other) p q in cc
 
-one_speed : FilesAreOne → (bytes : List ℕ) (one other : WholeSpeed) → Spells bytes one → Spells bytes other → one ≡ other
+one_speed : FilesAreOne → (bytes : List ℕ) (one other : WholeSpeed) → Reads bytes (Ok one) → Reads bytes (Ok other) → one ≡ other
 one_speed law bytes one other p q =
     let same = same_rules law bytes q.0 p.0 q.1 p.1 in
     one_narrow p.0 one other p.2 (subst (λ given. IsNarrow given other) same q.2)
 
-never_refused : FilesAreOne → (bytes : List ℕ) (speed : WholeSpeed) (fault : RuleFault) → Spells bytes speed → Refuses bytes fault → ⊥
+never_refused : FilesAreOne → (bytes : List ℕ) (speed : WholeSpeed) (fault : RuleFault) → Reads bytes (Ok speed) → Reads bytes (Err fault) → ⊥
 never_refused law bytes speed fault p (inl q) = not_refused law bytes p.0 fault p.1 q
 never_refused law bytes speed fault p (inr q) =
     let same = same_rules law bytes p.0 q.0.0 p.1 q.0.1 in
     q.0.2 speed (subst (λ given. IsNarrow given speed) same p.2)
 
-one_refusal : FilesAreOne → (bytes : List ℕ) (one other : RuleFault) → Refuses bytes one → Refuses bytes other → one ≡ other
+one_refusal : FilesAreOne → (bytes : List ℕ) (one other : RuleFault) → Reads bytes (Err one) → Reads bytes (Err other) → one ≡ other
 one_refusal law bytes one other (inl p) (inl q) = same_fault law bytes one other p q
 one_refusal law bytes one other (inl p) (inr q) = absurd (not_refused law bytes q.0.0 one q.0.1 p)
 one_refusal law bytes one other (inr p) (inl q) = absurd (not_refused law bytes p.0.0 other p.0.1 q)
 one_refusal law bytes one other (inr p) (inr q) = p.1 ∙ sym q.1
 
-pub narrow_one : FilesAreOne → AreOne IsAnswer
+pub narrow_one : FilesAreOne → AreOne Reads
 narrow_one law bytes (Ok one) (Ok other) p q = ap Ok (one_speed law bytes one other p q)
-narrow_one law bytes (Ok one) (Err fault) p q = absurd (never_refused law bytes one fault p q.1)
-narrow_one law bytes (Err fault) (Ok other) p q = absurd (never_refused law bytes other fault q p.1)
-narrow_one law bytes (Err one) (Err other) p q = ap Err (one_refusal law bytes one other p.1 q.1)
+narrow_one law bytes (Ok one) (Err fault) p q = absurd (never_refused law bytes one fault p q)
+narrow_one law bytes (Err fault) (Ok other) p q = absurd (never_refused law bytes other fault q p)
+narrow_one law bytes (Err one) (Err other) p q = ap Err (one_refusal law bytes one other p q)

@@ -8,10 +8,11 @@ use Rattle.screen_io.specs.Sink.{Gains, GainsPrefix}
 use Rattle.screen_io.specs.Source.{Takes, IsAtEnd}
 use Rattle.screen_io.specs.declared.source.Failed.{Failed}
 use Rattle.rule_file.specs.declared.fault.RuleFault.{RuleFault}
-use Rattle.rule_file.specs.Reading.{longest as longest_rules}
+use Rattle.rule_file.specs.declared.read.TheConstants.{LONGEST as longest_rules}
 use Rattle.series_csv.specs.declared.fault.TableFault.{TableFault}
 use Rattle.series_csv.specs.declared.table.Row.{Row}
-use Rattle.series_csv.specs.Reading.{longest as longest_readings, IsAnswer as ReadsReadings}
+use Rattle.series_csv.specs.declared.read.TheConstants.{LONGEST as longest_readings}
+use Rattle.series_csv.specs.ReadingsFile.{Reads as ReadsReadings}
 use Rattle.series_csv.specs.Rows.{places, values}
 use Rattle.screen_model.specs.Obeys.{Obeys, without_prices}
 use Rattle.screen_tool.specs.declared.command.Command.{Command}
@@ -29,7 +30,7 @@ use Rattle.screen_tool.specs.Answers.{Answers, usage}
 use Rattle.screen_tool.specs.Bounds.{bounds}
 use Rattle.screen_tool.specs.Files.{RulesAreOne, rules_too_long, rules_refused, readings_too_long, readings_refused}
 use Rattle.screen_tool.specs.Global.{AnswersGlobal, AnswersRows, ReadingsObey, unchanged, needs_repair}
-use Rattle.screen_tool.specs.Narrow.{IsAnswer as ReadsRules}
+use Rattle.screen_tool.specs.Narrow.{Reads as ReadsRules}
 use Rattle.screen_tool.specs.Performance.{IsRead, AreRead, IsAnswered, Stops, CountsNoFault, LeavesSinks, IsWritten, IsCut, AreWritten, AreCut, IsNoted, Performs}
 use Rattle.screen_tool.specs.Step.{IsFound, IsStep, WasRead, IsReplyOf, Replies, Ends, rules_ending, readings_ending}
 use Rattle.screen_tool.proofs.AnswerLaws.{IsProper, needs_rules, needs_readings}

@@ -1,18 +1,20 @@
 -- To be believed: what every command answers where its rules or its readings are refused.
 use Rattle.std.specs.Prelude.{◌≡◌, ℕ, List, Option, None, Result}
 use Rattle.rule_file.specs.declared.fault.RuleFault.{RuleFault}
-use Rattle.rule_file.specs.Document.{of_the_file}
-use Rattle.rule_file.specs.Reading.{longest as longest_rules}
-use Rattle.rule_keys.specs.declared.cause.RuleCause.TheVariants as rules
+use Rattle.rule_file.specs.Fault.{of_the_file as of_the_rules}
+use Rattle.series_csv.specs.Fault.{of_the_file as of_the_readings}
+use Rattle.rule_file.specs.declared.read.TheConstants.{LONGEST as longest_rules}
+use Rattle.rule_file.specs.declared.fault.RuleCause.TheVariants as rules
 use Rattle.series_csv.specs.declared.fault.TableFault.{TableFault}
 use Rattle.series_csv.specs.declared.fault.TableCause.TheVariants as readings
 use Rattle.series_csv.specs.declared.table.Row.{Row}
-use Rattle.series_csv.specs.Reading.{longest as longest_readings, IsAnswer as ReadsReadings}
+use Rattle.series_csv.specs.declared.read.TheConstants.{LONGEST as longest_readings}
+use Rattle.series_csv.specs.ReadingsFile.{Reads as ReadsReadings}
 use Rattle.screen_tool.specs.declared.speed.WholeSpeed.{WholeSpeed}
 use Rattle.screen_tool.specs.declared.status.Ending.{Ending}
 use Rattle.screen_tool.specs.declared.status.Ending.TheVariants.{RulesRefused, ReadingsRefused}
 use Rattle.screen_tool.specs.Answer.{Extent, Whole, Begun, Unread, Answer, AfterFile, AreOne}
-use Rattle.screen_tool.specs.Narrow.{IsAnswer as ReadsRules}
+use Rattle.screen_tool.specs.Narrow.{Reads as ReadsRules}
 
 -- The answer that writes nothing, with how far the rules and the readings are read. No certificate is read.
 abbrev pub says : Ending → Extent → Extent → Answer
@@ -24,13 +26,13 @@ says ending rules readings = record {
 }
 
 abbrev pub rules_too_long : Answer
-rules_too_long = says (RulesRefused (of_the_file rules.FileTooLong)) Begun Unread
+rules_too_long = says (RulesRefused (of_the_rules rules.FileTooLong)) Begun Unread
 
 abbrev pub rules_refused : RuleFault → Answer
 rules_refused fault = says (RulesRefused fault) Whole Unread
 
 abbrev pub readings_too_long : Answer
-readings_too_long = says (ReadingsRefused (record { cause = readings.FileTooLong; row = 0; col = 0 })) Whole Begun
+readings_too_long = says (ReadingsRefused (of_the_readings readings.FileTooLong)) Whole Begun
 
 abbrev pub readings_refused : TableFault → Answer
 readings_refused fault = says (ReadingsRefused fault) Whole Whole

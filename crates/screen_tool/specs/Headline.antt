@@ -1,7 +1,7 @@
 -- To be believed: what the program is for, as far as it is built, in one piece.
 use Rattle.std.specs.Prelude.{◌≡◌, ◌≢◌, ◌⊎◌, ℕ, List, Option, Some, Ok}
 use Rattle.series_csv.specs.declared.table.Row.{Row}
-use Rattle.series_csv.specs.Reading.{IsAnswer as ReadsReadings}
+use Rattle.series_csv.specs.ReadingsFile.{Reads as ReadsReadings}
 use Rattle.screen_io.specs.Sink.{Gains}
 use Rattle.screen_tool.specs.declared.ends.Inputs.{Inputs}
 use Rattle.screen_tool.specs.declared.ends.Outputs.{Outputs}
@@ -9,7 +9,7 @@ use Rattle.screen_tool.specs.declared.speed.WholeSpeed.{WholeSpeed}
 use Rattle.screen_tool.specs.declared.status.Status.{Status}
 use Rattle.screen_tool.specs.declared.status.Status.TheVariants.{Done, ReadFault, WriteFault, Memory, NeedsRepair}
 use Rattle.screen_tool.specs.Global.{ReadingsObey, unchanged_cert, unchanged_text}
-use Rattle.screen_tool.specs.Narrow.{IsAnswer as ReadsRules}
+use Rattle.screen_tool.specs.Narrow.{Reads as ReadsRules}
 
 -- The status is this one, apart from counted read and write faults and want of memory.
 abbrev pub IsApartFromFaults : Status → Status → Type 0

@@ -1,13 +1,13 @@
--- The rules that the program works with so far.
+-- To be believed: the rules that the program works with so far.
 use Rattle.std.specs.Prelude.{◌≡◌, ◌≢◌, ◌⊎◌, ℕ, ◌*◌, ◌^◌, pos, ◌*ℤ◌, List, [], ◌∷◌, Option, Some, None, Result, Ok, Err, codes}
 use Rattle.time_text.specs.declared.form.TimeForm.TheVariants.{Sec}
-use Rattle.rule_keys.specs.declared.cause.RuleCause.TheVariants.{NotBuilt, Memory}
+use Rattle.rule_file.specs.declared.fault.RuleCause.TheVariants.{NotBuilt}
 use Rattle.rule_file.specs.declared.fault.RuleFault.{RuleFault}
 use Rattle.rule_file.specs.declared.rules.Format.{Format}
 use Rattle.rule_file.specs.declared.rules.SpeedRule.{SpeedRule}
 use Rattle.rule_file.specs.declared.rules.Rules.{Rules}
-use Rattle.rule_file.specs.Document.{of_the_file}
-use Rattle.rule_file.specs.Reading as rule_file
+use Rattle.rule_file.specs.Fault.{of_the_file}
+use Rattle.rule_file.specs.File as rule_file
 use Rattle.screen_tool.specs.declared.speed.WholeSpeed.{WholeSpeed}
 
 -- the time column is the first one, which is `time` where it is named
@@ -45,19 +45,11 @@ pub record IsNarrow (rules : Rules) (speed : WholeSpeed) : Type 0 where
   pub alone : HasSpeedsAlone rules
   pub lone : (rule : SpeedRule) × (rules.speeds ≡ rule ∷ []) × IsWholeSpeed rule speed
 
--- the bytes are a rule file of this rule
-abbrev pub Spells : List ℕ → WholeSpeed → Type 0
-Spells bytes speed = (rules : Rules) × rule_file.Spells bytes rules × IsNarrow rules speed
-
 -- the bytes are a rule file, but of rules that the program does not work with so far
 abbrev pub IsOfOtherRules : List ℕ → Type 0
 IsOfOtherRules bytes = (rules : Rules) × rule_file.Spells bytes rules × ((speed : WholeSpeed) → ¬ IsNarrow rules speed)
 
--- The bytes are refused: as a rule file, or for what it says.
-abbrev pub Refuses : List ℕ → RuleFault → Type 0
-Refuses bytes fault = rule_file.Refuses bytes fault ⊎ (IsOfOtherRules bytes × (fault ≡ of_the_file NotBuilt))
-
--- the one or the other; want of memory is no fault that the bytes have
-abbrev pub IsAnswer : List ℕ → Result WholeSpeed RuleFault → Type 0
-IsAnswer bytes (Ok speed) = Spells bytes speed
-IsAnswer bytes (Err fault) = (fault.cause ≢ Memory) × Refuses bytes fault
+-- What the bytes are read as: a rule file of this rule; or they are refused, as a rule file or for what it says.
+abbrev pub Reads : List ℕ → Result WholeSpeed RuleFault → Type 0
+Reads bytes (Ok speed) = (rules : Rules) × rule_file.Spells bytes rules × IsNarrow rules speed
+Reads bytes (Err fault) = rule_file.Refuses bytes fault ⊎ (IsOfOtherRules bytes × (fault ≡ of_the_file NotBuilt))

@@ -1,7 +1,7 @@
 -- What the program says of each ending.
 use Rattle.std.specs.Prelude.{ℕ, List, [], ◌++◌, codes, decimal}
-use Rattle.rule_keys.specs.declared.cause.RuleCause.{RuleCause}
-use Rattle.rule_keys.specs.declared.cause.RuleCause.TheVariants as rules
+use Rattle.rule_file.specs.declared.fault.RuleCause.{RuleCause}
+use Rattle.rule_file.specs.declared.fault.RuleCause.TheVariants as rules
 use Rattle.series_csv.specs.declared.fault.TableCause.{TableCause}
 use Rattle.series_csv.specs.declared.fault.TableCause.TheVariants as readings
 use Rattle.screen_tool.specs.declared.status.Ending.{Ending}

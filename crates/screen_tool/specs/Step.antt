@@ -2,8 +2,9 @@
 use Rattle.std.specs.Prelude.{◌≡◌, ◌≢◌, ◌⊎◌, ℕ, ◌<◌, ◌≤◌, List, length, Option, Some, None, option_map, Result, Ok, Err, Vec}
 use Rattle.std.specs.declared.alloc.Global.{Global as Heap}
 use Rattle.rule_file.specs.declared.fault.RuleFault.{RuleFault}
-use Rattle.rule_file.specs.Document.{of_the_file}
-use Rattle.rule_keys.specs.declared.cause.RuleCause.TheVariants as rules
+use Rattle.rule_file.specs.Fault.{of_the_file as of_the_rules}
+use Rattle.series_csv.specs.Fault.{of_the_file as of_the_readings}
+use Rattle.rule_file.specs.declared.fault.RuleCause.TheVariants as rules
 use Rattle.series_csv.specs.declared.fault.TableFault.{TableFault}
 use Rattle.series_csv.specs.declared.fault.TableCause.TheVariants as readings
 use Rattle.screen_io.specs.Faults.{Rose}
@@ -27,13 +28,13 @@ IsFound Reads bytes (Err Failed) = ⊥
 
 -- how a command ends at a fault of its rules, and of its readings
 abbrev pub rules_ending : StepFault RuleFault → Ending
-rules_ending TooLong = ending.RulesRefused (of_the_file rules.FileTooLong)
+rules_ending TooLong = ending.RulesRefused (of_the_rules rules.FileTooLong)
 rules_ending (Refused fault) = ending.RulesRefused fault
 rules_ending Failed = ending.ReadFault
 rules_ending Memory = ending.Memory
 
 abbrev pub readings_ending : StepFault TableFault → Ending
-readings_ending TooLong = ending.ReadingsRefused (record { cause = readings.FileTooLong; row = 0; col = 0 })
+readings_ending TooLong = ending.ReadingsRefused (of_the_readings readings.FileTooLong)
 readings_ending (Refused fault) = ending.ReadingsRefused fault
 readings_ending Failed = ending.ReadFault
 readings_ending Memory = ending.Memory

@@ -17,7 +17,7 @@ pub(crate) fn obeys(rule: &WholeSpeed, rows: &[Row]) -> bool
     meets_speed(rule, rows)
 }
 
-// Whether every two readings within the window differ by what the rates allow.
+/// Whether every two readings within the window differ by what the rates allow.
 fn meets_speed(rule: &WholeSpeed, rows: &[Row]) -> bool
     requires { AreRows rows.now }
     ensures { IsTrue result ↔ MeetsSpeed rule.now rows.now }
@@ -30,7 +30,7 @@ fn meets_speed(rule: &WholeSpeed, rows: &[Row]) -> bool
     true
 }
 
-// Each later reading that is no further away than the window differs by what the rates allow.
+/// Each later reading that is no further away than the window differs by what the rates allow.
 fn changes_all_within(rule: &WholeSpeed, row: Row, rows: &[Row]) -> bool
     requires small { AllByRecursion IsSmall (row ∷ rows.now) }
     requires rise { Rises (row ∷ rows.now) }

@@ -1,8 +1,9 @@
 //! The steps of a command that read its rules and its readings.
 ghost use Rattle.std.specs.Prelude.{◌≡◌};
-ghost use Rattle.rule_file.specs.Reading.{longest as longest_rules};
-ghost use Rattle.series_csv.specs.Reading.{longest as longest_readings, IsAnswer as ReadsReadings};
-ghost use Rattle.screen_tool.specs.Narrow.{IsAnswer as ReadsRules};
+ghost use Rattle.rule_file.specs.declared.read.TheConstants.{LONGEST as longest_rules};
+ghost use Rattle.series_csv.specs.declared.read.TheConstants.{LONGEST as longest_readings};
+ghost use Rattle.series_csv.specs.ReadingsFile.{Reads as ReadsReadings};
+ghost use Rattle.screen_tool.specs.Narrow.{Reads as ReadsRules};
 ghost use Rattle.screen_tool.specs.Step.{IsFound, IsStep, WasRead};
 
 use crate::narrow::whole_speed;
@@ -63,10 +64,9 @@ fn rules_of(alloc: Global, bytes: &[u8]) -> Result<WholeSpeed, StepFault<RuleFau
     };
     match whole_speed(alloc, &rules) {
         Ok(Some(speed)) => Ok(speed),
-        Ok(None) => Err(StepFault::Refused(RuleFault {
-            cause: RuleCause::NotBuilt,
-            rule: 0,
-        })),
+        Ok(None) => Err(StepFault::Refused(RuleFault::of_the_file(
+            RuleCause::NotBuilt,
+        ))),
         Err(AllocError) => Err(StepFault::Memory),
     }
 }

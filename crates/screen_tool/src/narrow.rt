@@ -21,7 +21,7 @@ pub(crate) fn whole_speed(alloc: Global, rules: &Rules) -> Result<Option<WholeSp
         return Ok(None);
     };
     Ok(Some(WholeSpeed {
-        sensor: owned(alloc, found.sensor)?,
+        sensor: Sequence::from_slice(alloc, found.sensor)?,
         min: found.min,
         max: found.max,
         per: found.per,
@@ -49,7 +49,7 @@ fn is_plain(format: &Format) -> bool
         && format.separator == b','
 }
 
-// Whether the name of the time column, if there is one, is that of the first column.
+/// Whether the name of the time column, if there is one, is that of the first column.
 fn is_first_column(time: &Option<Name>) -> bool
     ensures { IsTrue result ↔ IsFirstColumn time.now }
 {
@@ -59,7 +59,7 @@ fn is_first_column(time: &Option<Name>) -> bool
     }
 }
 
-// Whether there are no rules but speed rules.
+/// Whether there are no rules but speed rules.
 fn has_speeds_alone(rules: &Rules) -> bool
     ensures { IsTrue result ↔ HasSpeedsAlone rules.now }
 {
@@ -71,7 +71,7 @@ fn has_speeds_alone(rules: &Rules) -> bool
         && rules.betweens.is_empty()
 }
 
-// The element of a slice that has one.
+/// The element of a slice that has one.
 fn lone<T>(elements: &[T]) -> Option<&T>
     ensures { MatchOption result (length elements.now ≢ 1) (λ element. elements.now ≡ element.now ∷ []) }
 {
@@ -103,7 +103,7 @@ fn numbers_in(rule: &SpeedRule) -> Option<Numbers<'_>>
     })
 }
 
-// The wholes of so many millionths, if they are at most 1,000,000 in size.
+/// The wholes of so many millionths, if they are at most 1,000,000 in size.
 fn wholes(millionths: i64) -> Option<i64>
     ensures { MatchOption result
         ((units : ℤ) → IsChange units → millionths ≢ units *ℤ pos (10 ^ 6))
@@ -117,7 +117,7 @@ fn wholes(millionths: i64) -> Option<i64>
     }
 }
 
-// The seconds of so many ticks, if they are from 1 to 1,000,000.
+/// The seconds of so many ticks, if they are from 1 to 1,000,000.
 fn whole_seconds(ticks: i64) -> Option<u32>
     ensures { MatchOption result
         ((seconds : ℕ) → IsSeconds seconds → ticks ≢ pos (seconds * 10 ^ 9))
@@ -141,15 +141,4 @@ fn has_small_letters(name: &[u8]) -> bool
     ensures { result ≡ list_all is_small_letter name.now }
 {
     name.iter().all(|letter| letter.is_ascii_lowercase())
-}
-
-// A copy of a name.
-fn owned(alloc: Global, letters: &[u8]) -> Result<Name, AllocError>
-    ensures { IfOk result (λ name. name ≡ letters.now) }
-{
-    let mut name = Sequence::new(alloc);
-    for letter in letters {
-        name.push(*letter)?;
-    }
-    Ok(name)
 }

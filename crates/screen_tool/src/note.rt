@@ -60,7 +60,7 @@ fn readings_note(fault: &TableFault) -> Note
     note
 }
 
-// Adds a number of at most ten digits.
+/// Adds a number of at most ten digits.
 fn push_number(note: &mut Note, number: u32)
     requires { array_string_len note.old + 10 ≤ ROOM }
     ensures bytes { note.new.bytes ≡ note.old.bytes ++ decimal number }

@@ -104,10 +104,9 @@ impl From<StepFault<RuleFault>> for Ending {
 
     fn from(fault: StepFault<RuleFault>) -> Ending {
         match fault {
-            StepFault::TooLong => Ending::RulesRefused(RuleFault {
-                cause: RuleCause::FileTooLong,
-                rule: 0,
-            }),
+            StepFault::TooLong => {
+                Ending::RulesRefused(RuleFault::of_the_file(RuleCause::FileTooLong))
+            }
             StepFault::Refused(fault) => Ending::RulesRefused(fault),
             StepFault::Failed => Ending::ReadFault,
             StepFault::Memory => Ending::Memory,
@@ -123,11 +122,9 @@ impl From<StepFault<TableFault>> for Ending {
 
     fn from(fault: StepFault<TableFault>) -> Ending {
         match fault {
-            StepFault::TooLong => Ending::ReadingsRefused(TableFault {
-                cause: TableCause::FileTooLong,
-                row: 0,
-                col: 0,
-            }),
+            StepFault::TooLong => {
+                Ending::ReadingsRefused(TableFault::of_the_file(TableCause::FileTooLong))
+            }
             StepFault::Refused(fault) => Ending::ReadingsRefused(fault),
             StepFault::Failed => Ending::ReadFault,
             StepFault::Memory => Ending::Memory,

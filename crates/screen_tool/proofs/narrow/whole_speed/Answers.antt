@@ -10,4 +10,4 @@ returns c =
     let found = c.in-Some.found in
     let min_fits : FitsSigned w64 found.min = search rules in
     let max_fits : FitsSigned w64 found.max = search rules in
-    narrow_same c.args.rules.now (speed_of found) _ c.in-Some.ensures (sym c.in_ok-owned.ensures) (sym (to_z-of_z w64 found.min min_fits)) (sym (to_z-of_z w64 found.max max_fits)) refl refl
+    narrow_same c.args.rules.now (speed_of found) _ c.in-Some.ensures (sym c.in_ok-from_slice.ensures) (sym (to_z-of_z w64 found.min min_fits)) (sym (to_z-of_z w64 found.max max_fits)) refl refl
