@@ -1,5 +1,5 @@
 -- What is answered after a file was read: in one way only, and by what was read of it.
-use Rattle.std.proofs.Common.{◌≡◌, ◌⊎◌, inl, inr, ℕ, ◌<◌, ◌≤◌, ◌+◌, List, ◌++◌, length, Result, Ok, Err, MatchResult, ap, sym, subst, ◌∙◌, arith}
+use Rattle.std.proofs.Common.{◌≡◌, inl, inr, ℕ, ◌<◌, ◌≤◌, ◌+◌, List, length, Result, Ok, Err, MatchResult, ap, sym, subst, ◌∙◌, arith}
 use Rattle.std.proofs.lemmas.List.{length-append}
 use Rattle.screen_tool.specs.Answer.{Extent, Whole, Begun, Answer, AfterFile, AreFront, AreOne}
 
@@ -20,19 +20,19 @@ module _ {A F : Type 0} (longest : ℕ) (Reads : List ℕ → Result A F → Typ
   after_has P bytes Follows answer at_long at_refused at_value (inl p) = subst P (sym p.1) at_long
   after_has P bytes Follows answer at_long at_refused at_value (inr p) = found_has P Follows p.1 answer at_refused at_value p.3
 
-  -- two answers end alike
-  found_one : (Follows : A → Answer → Type 0) → ((value : A) (one other : Answer) → Follows value one → Follows value other → one.ending ≡ other.ending)
+  -- two answers come to the same
+  found_one : (Follows : A → Answer → Type 0) → ((value : A) (one other : Answer) → Follows value one → Follows value other → one.outcome ≡ other.outcome)
       → (found : Result A F) (one other : Answer)
       → MatchResult found (λ value. Follows value one) (λ fault. one ≡ refused fault)
-      → MatchResult found (λ value. Follows value other) (λ fault. other ≡ refused fault) → one.ending ≡ other.ending
+      → MatchResult found (λ value. Follows value other) (λ fault. other ≡ refused fault) → one.outcome ≡ other.outcome
   found_one Follows follow (Ok value) one other p q = follow value one other p q
-  found_one Follows follow (Err fault) one other p q = ap (λ (a : Answer). a.ending) (p ∙ sym q)
+  found_one Follows follow (Err fault) one other p q = ap (λ (a : Answer). a.outcome) (p ∙ sym q)
 
   pub after_one : AreOne Reads → (bytes : List ℕ) (Follows : A → Answer → Type 0)
-      → ((value : A) (one other : Answer) → Follows value one → Follows value other → one.ending ≡ other.ending)
+      → ((value : A) (one other : Answer) → Follows value one → Follows value other → one.outcome ≡ other.outcome)
       → (one other : Answer) → AfterFile longest Reads too_long refused bytes Follows one → AfterFile longest Reads too_long refused bytes Follows other
-      → one.ending ≡ other.ending
-  after_one law bytes Follows follow one other (inl p) (inl q) = ap (λ (a : Answer). a.ending) (p.1 ∙ sym q.1)
+      → one.outcome ≡ other.outcome
+  after_one law bytes Follows follow one other (inl p) (inl q) = ap (λ (a : Answer). a.outcome) (p.1 ∙ sym q.1)
   after_one law bytes Follows follow one other (inl p) (inr q) = absurd (too_long_and_not longest (length bytes) p.0 q.0)
   after_one law bytes Follows follow one other (inr p) (inl q) = absurd (too_long_and_not longest (length bytes) q.0 p.0)
   after_one law bytes Follows follow one other (inr p) (inr q) =
@@ -49,16 +49,16 @@ module _ {A F : Type 0} (longest : ℕ) (Reads : List ℕ → Result A F → Typ
       subst (λ (found : Result A F). MatchResult found (λ given. Follows given answer) (λ fault. answer ≡ refused fault)) same p.3
 
   -- the answer rests on what was read of the file
-  longer : (came bytes : List ℕ) → longest < length came → AreFront Begun came bytes → longest < length bytes
-  longer came bytes p front =
+  longer : (count : ℕ) (came bytes : List ℕ) → longest < length came → AreFront (Begun count) came bytes → longest < length bytes
+  longer count came bytes p front =
       let size : length bytes ≡ length came + length front.0 = ap length front.1 ∙ length-append came front.0 in
       omega (arith, p, size)
 
   same_bytes : (extent : Extent) (came bytes : List ℕ) → extent ≡ Whole → AreFront extent came bytes → bytes ≡ came
   same_bytes extent came bytes p front = subst (λ e. AreFront e came bytes) p front
 
-  begun_bytes : (extent : Extent) (came bytes : List ℕ) → extent ≡ Begun → AreFront extent came bytes → AreFront Begun came bytes
-  begun_bytes extent came bytes p front = subst (λ e. AreFront e came bytes) p front
+  begun_bytes : (extent : Extent) (count : ℕ) (came bytes : List ℕ) → extent ≡ Begun count → AreFront extent came bytes → AreFront (Begun count) came bytes
+  begun_bytes extent count came bytes p front = subst (λ e. AreFront e came bytes) p front
 
   found_follows : (Follows Next : A → Answer → Type 0) (found : Result A F) (answer : Answer)
       → ((value : A) → Follows value answer → Next value answer)
@@ -73,13 +73,13 @@ module _ {A F : Type 0} (longest : ℕ) (Reads : List ℕ → Result A F → Typ
   found_whole extent Follows (Ok value) answer at_refused at_value p = at_value value p
   found_whole extent Follows (Err fault) answer at_refused at_value p = ap extent p ∙ at_refused fault
 
-  pub after_rests : (extent : Answer → Extent) (came bytes : List ℕ) (Follows Next : A → Answer → Type 0) (answer : Answer)
-      → extent too_long ≡ Begun → ((fault : F) → extent (refused fault) ≡ Whole) → ((value : A) → Follows value answer → extent answer ≡ Whole)
+  pub after_rests : (extent : Answer → Extent) (count : ℕ) (came bytes : List ℕ) (Follows Next : A → Answer → Type 0) (answer : Answer)
+      → extent too_long ≡ Begun count → ((fault : F) → extent (refused fault) ≡ Whole) → ((value : A) → Follows value answer → extent answer ≡ Whole)
       → ((value : A) → Follows value answer → Next value answer) → AreFront (extent answer) came bytes
       → AfterFile longest Reads too_long refused came Follows answer → AfterFile longest Reads too_long refused bytes Next answer
-  after_rests extent came bytes Follows Next answer at_long at_refused at_value next front (inl p) =
-      inl (longer came bytes p.0 (begun_bytes (extent answer) came bytes (ap extent p.1 ∙ at_long) front), p.1)
-  after_rests extent came bytes Follows Next answer at_long at_refused at_value next front (inr p) =
+  after_rests extent count came bytes Follows Next answer at_long at_refused at_value next front (inl p) =
+      inl (longer count came bytes p.0 (begun_bytes (extent answer) count came bytes (ap extent p.1 ∙ at_long) front), p.1)
+  after_rests extent count came bytes Follows Next answer at_long at_refused at_value next front (inr p) =
       let same : bytes ≡ came = same_bytes (extent answer) came bytes (found_whole extent Follows p.1 answer at_refused at_value p.3) front in
       inr (
         subst (λ (b : List ℕ). length b ≤ longest) (sym same) p.0,

@@ -1,11 +1,8 @@
 -- From the steps of a command to what it performs.
-use Rattle.std.proofs.Common.{◌≡◌, ◌≢◌, ◌⊎◌, inl, inr, ℕ, ◌≤◌, ◌<◌, ◌↔◌, Bool, true, false, IsTrue, List, [], ◌++◌, length, Option, Some, None, Result, Ok, Err, OnOk, OnErr, MatchResult, Vec, refl, sym, ap, subst, ◌∙◌}
-use Rattle.std.specs.declared.alloc.Global.{Global as Heap}
+use Rattle.std.proofs.Common.{◌≡◌, inl, inr, ℕ, ◌≤◌, ◌↔◌, Bool, true, false, IsTrue, List, [], length, Option, None, Result, Ok, Err, OnOk, OnErr, refl, sym, subst, ◌∙◌}
 use Rattle.std.proofs.lemmas.Bool.{false≢true}
-use Rattle.std.proofs.lemmas.List.{append-nil}
 use Rattle.screen_io.specs.Faults.{Rose, HasCause}
 use Rattle.screen_io.specs.Sink.{Gains, GainsPrefix}
-use Rattle.screen_io.specs.Source.{Takes, IsAtEnd}
 use Rattle.screen_io.specs.declared.source.Failed.{Failed}
 use Rattle.rule_file.specs.declared.fault.RuleFault.{RuleFault}
 use Rattle.rule_file.specs.declared.read.TheConstants.{LONGEST as longest_rules}
@@ -16,24 +13,23 @@ use Rattle.series_csv.specs.ReadingsFile.{Reads as ReadsReadings}
 use Rattle.series_csv.specs.Rows.{places, values}
 use Rattle.screen_model.specs.Obeys.{Obeys, without_prices}
 use Rattle.screen_tool.specs.declared.command.Command.{Command}
-use Rattle.screen_tool.specs.declared.command.Command.TheVariants.{Global}
 use Rattle.screen_tool.specs.declared.ends.Inputs.{Inputs}
 use Rattle.screen_tool.specs.declared.ends.Outputs.{Outputs}
-use Rattle.screen_tool.specs.declared.reply.Reply.{Reply}
 use Rattle.screen_tool.specs.declared.speed.WholeSpeed.{WholeSpeed}
 use Rattle.screen_tool.specs.declared.status.Ending.{Ending}
 use Rattle.screen_tool.specs.declared.status.Ending.TheVariants as ending
+use Rattle.screen_tool.specs.declared.status.Outcome.TheVariants.{Usage}
 use Rattle.screen_tool.specs.declared.step.StepFault.{StepFault}
 use Rattle.screen_tool.specs.declared.step.StepFault.TheVariants as fault
-use Rattle.screen_tool.specs.Answer.{Extent, Whole, Begun, Unread, Answer}
+use Rattle.screen_tool.specs.Answer.{Extent, Whole, Unread, Answer}
 use Rattle.screen_tool.specs.Answers.{Answers, usage}
 use Rattle.screen_tool.specs.Bounds.{bounds}
 use Rattle.screen_tool.specs.Files.{RulesAreOne, rules_too_long, rules_refused, readings_too_long, readings_refused}
-use Rattle.screen_tool.specs.Global.{AnswersGlobal, AnswersRows, ReadingsObey, unchanged, needs_repair}
+use Rattle.screen_tool.specs.Global.{AnswersGlobal, AnswersRows, ReadingsObey}
 use Rattle.screen_tool.specs.Narrow.{Reads as ReadsRules}
-use Rattle.screen_tool.specs.Performance.{IsRead, AreRead, IsAnswered, Stops, CountsNoFault, LeavesSinks, IsWritten, IsCut, AreWritten, AreCut, IsNoted, Performs}
-use Rattle.screen_tool.specs.Step.{IsFound, IsStep, WasRead, IsReplyOf, Replies, Ends, rules_ending, readings_ending}
-use Rattle.screen_tool.proofs.AnswerLaws.{IsProper, needs_rules, needs_readings}
+use Rattle.screen_tool.specs.Performance.{IsAnswerTo, IsRead, AreRead, IsAnswered, Stays, Stops, LeavesSinks, IsWritten, IsNoted, Performs}
+use Rattle.screen_tool.specs.Step.{IsFound, IsStopped, IsStep, WasRead, Ends, rules_ending, readings_ending}
+use Rattle.screen_tool.proofs.AnswerLaws.{needs_rules, needs_readings}
 
 -- ---- a file that was read, and what was found in it
 
@@ -43,7 +39,7 @@ module _ {S : Type 0} (left : S → Option (List ℕ)) (source_faults : S → �
       → IsStep left source_faults longest Reads source now answer
   step_found longest Reads source now came seen (Ok value) whole short same found = (came, whole, short, subst (λ (b : List ℕ). Reads b (Ok value)) same found)
   step_found longest Reads source now came seen (Err (fault.Refused f)) whole short same found = (came, whole, short, subst (λ (b : List ℕ). Reads b (Err f)) same found)
-  step_found longest Reads source now came seen (Err fault.Memory) whole short same found = whole.2
+  step_found longest Reads source now came seen (Err fault.Memory) whole short same found = (came, whole.0, whole.2)
   step_found longest Reads source now came seen (Err fault.TooLong) whole short same found = absurd found
   step_found longest Reads source now came seen (Err fault.Failed) whole short same found = absurd found
 
@@ -56,8 +52,12 @@ module _ {S : Type 0} (left : S → Option (List ℕ)) (source_faults : S → �
 
   -- ---- how `global` ends at a fault of its steps
 
+  at_rules : (Happens : ℕ → ℕ → Type 0) (ins : Inputs S) (rules : S) → IsStopped left source_faults Happens ins.rules rules
+      → Stops left source_faults Happens AnswersGlobal ins (record ins { rules = rules })
+  at_rules Happens ins rules p = inl (record { came = p.0; needed = needs_rules; taken = p.1; happens = p.2; readings = refl; cert = refl })
+
   pub rules_end : (ins : Inputs S) (rules : S) (given : StepFault RuleFault) → IsStep left source_faults longest_rules ReadsRules ins.rules rules (Err given)
-      → Ends left source_faults (Some Global) ins (record ins { rules = rules }) (rules_ending given)
+      → Ends left source_faults AnswersGlobal ins (record ins { rules = rules }) (rules_ending given)
   rules_end ins rules fault.TooLong p = (
     rules_too_long,
     refl,
@@ -72,13 +72,19 @@ module _ {S : Type 0} (left : S → Option (List ℕ)) (source_faults : S → �
     refl,
     (record { rules = p.0; readings = []; cert = [] }, inr (p.2, Err f, p.3, refl), (p.1, refl, refl)),
   )
-  rules_end ins rules fault.Failed p = inl (record { needed = needs_rules; rose = p; readings = refl; cert = refl })
-  rules_end ins rules fault.Memory p = record { rules = p; readings = refl; cert = refl }
+  rules_end ins rules fault.Failed p = at_rules Rose ins rules p
+  rules_end ins rules fault.Memory p = inr (at_rules Stays ins rules p)
+
+  at_readings : (Happens : ℕ → ℕ → Type 0) → RulesAreOne → (ins : Inputs S) (rules readings : S) (found : WholeSpeed)
+      → IsStep left source_faults longest_rules ReadsRules ins.rules rules (Ok found) → IsStopped left source_faults Happens ins.readings readings
+      → Stops left source_faults Happens AnswersGlobal ins (record ins { rules = rules; readings = readings })
+  at_readings Happens law ins rules readings found q p =
+      inr (inl (record { rules_came = q.0; came = p.0; rules = q.1; needed = needs_readings law q.0 found q.2 q.3; taken = p.1; happens = p.2; cert = refl }))
 
   pub readings_end : RulesAreOne → (ins : Inputs S) (rules readings : S) (found : WholeSpeed) (given : StepFault TableFault)
       → IsStep left source_faults longest_rules ReadsRules ins.rules rules (Ok found)
       → IsStep left source_faults longest_readings (ReadsReadings found.sensor) ins.readings readings (Err given)
-      → Ends left source_faults (Some Global) ins (record ins { rules = rules; readings = readings }) (readings_ending given)
+      → Ends left source_faults AnswersGlobal ins (record ins { rules = rules; readings = readings }) (readings_ending given)
   readings_end law ins rules readings found fault.TooLong q p = (
     readings_too_long,
     refl,
@@ -93,11 +99,17 @@ module _ {S : Type 0} (left : S → Option (List ℕ)) (source_faults : S → �
     refl,
     (record { rules = q.0; readings = p.0; cert = [] }, inr (q.2, Ok found, q.3, inr (p.2, Err f, p.3, refl)), (q.1, p.1, refl)),
   )
-  readings_end law ins rules readings found fault.Failed q p =
-      inr (inl (record { came = q.0; rules = q.1; needed = needs_readings law q.0 found q.2 q.3; rose = p; cert = refl }))
-  readings_end law ins rules readings found fault.Memory q p = record { rules = q.1.2; readings = p; cert = refl }
+  readings_end law ins rules readings found fault.Failed q p = at_readings Rose law ins rules readings found q p
+  readings_end law ins rules readings found fault.Memory q p = inr (at_readings Stays law ins rules readings found q p)
 
-  pub usage_ends : (command : Option Command) (ins : Inputs S) → command ≡ None → Ends left source_faults command ins ins ending.Usage
+  -- memory runs out once both files are accepted
+  pub texts_end : RulesAreOne → (ins : Inputs S) (rules readings : S) (found : WholeSpeed) (rows : List Row)
+      → IsStep left source_faults longest_rules ReadsRules ins.rules rules (Ok found)
+      → IsStep left source_faults longest_readings (ReadsReadings found.sensor) ins.readings readings (Ok rows)
+      → Ends left source_faults AnswersGlobal ins (record ins { rules = rules; readings = readings }) ending.Memory
+  texts_end law ins rules readings found rows q p = inr (at_readings Stays law ins rules readings found q (p.0, p.1.0, p.1.2))
+
+  pub usage_ends : (command : Option Command) (ins : Inputs S) → command ≡ None → Ends left source_faults (Answers command) ins ins (ending.Ended Usage)
   usage_ends command ins none = (
     usage,
     refl,
@@ -111,7 +123,7 @@ module _ {S : Type 0} (left : S → Option (List ℕ)) (source_faults : S → �
       → IsStep left source_faults longest_rules ReadsRules ins.rules rules (Ok found)
       → IsStep left source_faults longest_readings (ReadsReadings found.sensor) ins.readings readings (Ok rows)
       → answer.read ≡ record { rules = Whole; readings = Whole; cert = Unread } → AnswersRows found rows answer
-      → IsAnswered left source_faults (Some Global) ins (record ins { rules = rules; readings = readings }) answer
+      → IsAnswered left source_faults AnswersGlobal ins (record ins { rules = rules; readings = readings }) answer
   rows_answered ins rules readings found rows answer q p extents given = (
     record { rules = q.0; readings = p.0; cert = [] },
     inr (q.2, Ok found, q.3, inr (p.2, Ok rows, p.3, given)),
@@ -126,54 +138,30 @@ module _ {S K : Type 0} (left : S → Option (List ℕ)) (source_faults : S → 
   nothing_written : (text : Option (List ℕ)) (sink now : K) → text ≡ None → now ≡ sink → IsWritten held sink_faults text sink now
   nothing_written text sink now p same = subst (λ (t : Option (List ℕ)). IsWritten held sink_faults t sink now) (sym p) same
 
-  pub proper_performs : (command : Option Command) (ins ins_now : Inputs S) (outs outs_now : Outputs K) (how : Ending) → IsProper how
-      → (answer : Answer) → answer.ending ≡ how → IsAnswered left source_faults command ins ins_now answer → AreWritten held sink_faults answer outs outs_now
-      → Performs left source_faults held sink_faults command ins ins_now outs outs_now how
-  proper_performs command ins ins_now outs outs_now ending.Done proper answer p q r = (answer, p, q, r)
-  proper_performs command ins ins_now outs outs_now ending.Usage proper answer p q r = (answer, p, q, r)
-  proper_performs command ins ins_now outs outs_now (ending.RulesRefused f) proper answer p q r = (answer, p, q, r)
-  proper_performs command ins ins_now outs outs_now (ending.ReadingsRefused f) proper answer p q r = (answer, p, q, r)
-  proper_performs command ins ins_now outs outs_now ending.NeedsRepair proper answer p q r = (answer, p, q, r)
-  proper_performs command ins ins_now outs outs_now ending.ReadFault proper answer p q r = absurd proper
-  proper_performs command ins ins_now outs outs_now ending.WriteFault proper answer p q r = absurd proper
-  proper_performs command ins ins_now outs outs_now ending.Memory proper answer p q r = absurd proper
-
   -- the note is no part of it
-  pub performs_noted : (command : Option Command) (ins ins_now : Inputs S) (outs outs_now : Outputs K) (note : K) (how : Ending)
-      → Performs left source_faults held sink_faults command ins ins_now outs outs_now how
-      → Performs left source_faults held sink_faults command ins ins_now outs (record outs_now { note = note }) how
-  performs_noted command ins ins_now outs outs_now note ending.Done p = p
-  performs_noted command ins ins_now outs outs_now note ending.Usage p = p
-  performs_noted command ins ins_now outs outs_now note (ending.RulesRefused f) p = p
-  performs_noted command ins ins_now outs outs_now note (ending.ReadingsRefused f) p = p
-  performs_noted command ins ins_now outs outs_now note ending.NeedsRepair p = p
-  performs_noted command ins ins_now outs outs_now note ending.ReadFault p = p
-  performs_noted command ins ins_now outs outs_now note ending.WriteFault p = p
-  performs_noted command ins ins_now outs outs_now note ending.Memory p = p
+  pub performs_noted : (Answers : IsAnswerTo) (ins ins_now : Inputs S) (outs outs_now : Outputs K) (note : K) (how : Ending)
+      → Performs left source_faults held sink_faults Answers ins ins_now outs outs_now how
+      → Performs left source_faults held sink_faults Answers ins ins_now outs (record outs_now { note = note }) how
+  performs_noted Answers ins ins_now outs outs_now note (ending.Ended outcome) p = p
+  performs_noted Answers ins ins_now outs outs_now note ending.ReadFault p = p
+  performs_noted Answers ins ins_now outs outs_now note ending.WriteFault p = p
+  performs_noted Answers ins ins_now outs outs_now note ending.Memory p = p
 
-  pub ends_performs : (command : Option Command) (ins ins_now : Inputs S) (outs outs_now : Outputs K) (how : Ending)
-      → LeavesSinks outs outs_now → Ends left source_faults command ins ins_now how
-      → Performs left source_faults held sink_faults command ins ins_now outs outs_now how
-  ends_performs command ins ins_now outs outs_now ending.ReadFault same p = (p, same)
-  ends_performs command ins ins_now outs outs_now ending.Memory same p = (p, same)
-  ends_performs command ins ins_now outs outs_now ending.WriteFault same p = absurd p
-  ends_performs command ins ins_now outs outs_now ending.Done same p =
-      (p.0, p.1, p.4, (nothing_written p.0.cert outs.cert outs_now.cert p.2 same.0, nothing_written p.0.out outs.out outs_now.out p.3 same.1))
-  ends_performs command ins ins_now outs outs_now ending.Usage same p =
-      (p.0, p.1, p.4, (nothing_written p.0.cert outs.cert outs_now.cert p.2 same.0, nothing_written p.0.out outs.out outs_now.out p.3 same.1))
-  ends_performs command ins ins_now outs outs_now (ending.RulesRefused f) same p =
-      (p.0, p.1, p.4, (nothing_written p.0.cert outs.cert outs_now.cert p.2 same.0, nothing_written p.0.out outs.out outs_now.out p.3 same.1))
-  ends_performs command ins ins_now outs outs_now (ending.ReadingsRefused f) same p =
-      (p.0, p.1, p.4, (nothing_written p.0.cert outs.cert outs_now.cert p.2 same.0, nothing_written p.0.out outs.out outs_now.out p.3 same.1))
-  ends_performs command ins ins_now outs outs_now ending.NeedsRepair same p =
+  pub ends_performs : (Answers : IsAnswerTo) (ins ins_now : Inputs S) (outs outs_now : Outputs K) (how : Ending)
+      → LeavesSinks outs outs_now → Ends left source_faults Answers ins ins_now how
+      → Performs left source_faults held sink_faults Answers ins ins_now outs outs_now how
+  ends_performs Answers ins ins_now outs outs_now ending.ReadFault same p = (p, same)
+  ends_performs Answers ins ins_now outs outs_now ending.Memory same p = (p, same)
+  ends_performs Answers ins ins_now outs outs_now ending.WriteFault same p = absurd p
+  ends_performs Answers ins ins_now outs outs_now (ending.Ended outcome) same p =
       (p.0, p.1, p.4, (nothing_written p.0.cert outs.cert outs_now.cert p.2 same.0, nothing_written p.0.out outs.out outs_now.out p.3 same.1))
 
 module _ {K : Type 0} (held : K → Option (List ℕ)) (sink_faults : K → ℕ) where
   pub noted : (note seen : List ℕ) (sink now : K) (result : Result (Unit {0}) Failed) → seen ≡ note
       → OnOk result (Gains (held sink) seen (held now)) → OnErr result (GainsPrefix (held sink) seen (held now))
-      → HasCause (sink_faults sink) (sink_faults now) result → IsNoted held sink_faults note sink now
-  noted note seen sink now (Ok x) same whole part cause = inl (subst (λ (t : List ℕ). Gains (held sink) t (held now)) same whole)
-  noted note seen sink now (Err e) same whole part cause = inr (subst (λ (t : List ℕ). GainsPrefix (held sink) t (held now)) same part, cause.failed)
+      → HasCause (sink_faults sink) (sink_faults now) result → OnOk result (sink_faults now ≡ sink_faults sink) → IsNoted held sink_faults note sink now
+  noted note seen sink now (Ok x) same whole part cause unfailed = inl (subst (λ (t : List ℕ). Gains (held sink) t (held now)) same whole, unfailed)
+  noted note seen sink now (Err e) same whole part cause unfailed = inr (subst (λ (t : List ℕ). GainsPrefix (held sink) t (held now)) same part, cause.failed)
 
 -- ---- the test of the bounds, over the rows as it saw them
 

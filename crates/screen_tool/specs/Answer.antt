@@ -1,18 +1,18 @@
 -- To be believed: the form of what a command answers to the bytes of its sources.
 use Rattle.std.specs.Prelude.{◌≡◌, ◌⊎◌, ℕ, ◌<◌, ◌≤◌, List, ◌++◌, length, Option, Result, MatchResult}
 use Rattle.screen_tool.specs.declared.ends.Inputs.{Inputs}
-use Rattle.screen_tool.specs.declared.status.Ending.{Ending}
+use Rattle.screen_tool.specs.declared.status.Outcome.{Outcome}
 
--- how far a source is read: to its end, or no further than to see that it is too long, or not at all
+-- how far a source is read: to its end, or so many bytes and no further, or not at all
 pub data Extent : Type 0 where
   Whole : Extent
-  Begun : Extent
+  Begun : ℕ → Extent
   Unread : Extent
 
--- How the command ends, which is its status and its note; how far it reads each source; and the text that it
+-- What the command comes to, which is its status and its note; how far it reads each source; and the text that it
 -- writes to each sink, if any.
 pub record Answer : Type 0 where
-  pub ending : Ending
+  pub outcome : Outcome
   pub read : Inputs Extent
   pub cert : Option (List ℕ)
   pub out : Option (List ℕ)
@@ -21,8 +21,8 @@ pub record Answer : Type 0 where
 abbrev pub AreOne : {A F : Type 0} → (List ℕ → Result A F → Type 0) → Type 0
 AreOne {A} {F} Reads = (bytes : List ℕ) (one other : Result A F) → Reads bytes one → Reads bytes other → one ≡ other
 
--- A file is looked at: it is longer than allowed, or it is what it is read as. Where it is refused that is the
--- answer, and where it is accepted the answer is one of those that follow.
+-- A file may be longer than allowed, and that is the answer; or it is refused, and that is the answer; or it is
+-- accepted, and the answer is one of those that follow.
 module _ {A F : Type 0} (longest : ℕ) (Reads : List ℕ → Result A F → Type 0) (too_long : Answer) (refused : F → Answer) where
   abbrev pub AfterFile : List ℕ → (A → Answer → Type 0) → Answer → Type 0
   AfterFile bytes Follows answer =
@@ -33,7 +33,7 @@ module _ {A F : Type 0} (longest : ℕ) (Reads : List ℕ → Result A F → Typ
 -- The bytes that came of a source that was read so far tell this of all its bytes.
 abbrev pub AreFront : Extent → List ℕ → List ℕ → Type 0
 AreFront Whole came bytes = bytes ≡ came
-AreFront Begun came bytes = (rest : List ℕ) × (bytes ≡ came ++ rest)
+AreFront (Begun count) came bytes = (rest : List ℕ) × (bytes ≡ came ++ rest)
 AreFront Unread came bytes = Unit {0}
 
 abbrev pub AreFronts : Inputs Extent → Inputs (List ℕ) → Inputs (List ℕ) → Type 0

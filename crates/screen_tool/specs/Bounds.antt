@@ -1,4 +1,4 @@
--- The bounds that the rules make over the rows of a table, in their order.
+-- To be believed: the bounds that the rules make over the rows of a table, in their order.
 use Rattle.std.specs.Prelude.{ℕ, ◌+◌, ◌-◌, ℤ, pos, neg_ℤ, ◌*ℤ◌, Bool, List, [], ◌∷◌, ◌++◌, ◌&&◌, nat_lt, nat_le, if◌then◌else◌}
 use Rattle.std.specs.Int.{int_div_euclid}
 use Rattle.screen_model.specs.declared.place.Place.{Place}

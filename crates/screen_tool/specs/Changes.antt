@@ -1,4 +1,4 @@
--- The speed constraint on the readings themselves, with no bound made.
+-- For proofs: the speed constraint on the readings themselves, with no bound made.
 use Rattle.std.specs.Prelude.{◌-◌, ◌≤◌, pos, ◌*ℤ◌, ◌-ℤ◌, ◌≤ℤ◌, List, [], ◌∷◌}
 use Rattle.std.specs.List.{AllByRecursion}
 use Rattle.series_csv.specs.declared.table.Row.{Row}

@@ -1,4 +1,4 @@
--- The forms of commands, and what the ends of each are.
+-- To be believed: the words of commands, and what the ends of each are.
 use Rattle.std.specs.Prelude.{ℕ, List, [], ◌∷◌, Bool, Option, Some, None, map, codes, nat_eq, String, string_bytes, if◌then◌else◌}
 use Rattle.std.specs.Cmp.Lexicographic.{pointwise}
 use Rattle.std.specs.declared.alloc.Global.{Global as Heap}
@@ -14,7 +14,7 @@ texts words = map string_bytes words
 abbrev pub is_word : List ℕ → List ℕ → Bool
 is_word word text = pointwise nat_eq text word
 
--- `global RULES READINGS CERT` is a form, and nothing else is
+-- `global RULES READINGS CERT` asks for that command, and nothing else asks for one
 abbrev pub command_of : List (List ℕ) → Option Command
 command_of (command ∷ rules ∷ readings ∷ cert ∷ []) = if is_word (codes "global") command then Some Global else None
 command_of _ = None

@@ -1,9 +1,11 @@
--- The status of each ending, and the number of each status.
-use Rattle.std.specs.Prelude.{◌≡◌, ℕ}
+-- To be believed: the status of each ending, and the number of each status.
+use Rattle.std.specs.Prelude.{◌≡◌, ◌⊎◌, ℕ}
 use Rattle.screen_tool.specs.declared.status.Status.{Status}
 use Rattle.screen_tool.specs.declared.status.Status.TheVariants as status
+use Rattle.screen_tool.specs.declared.status.Outcome.{Outcome}
+use Rattle.screen_tool.specs.declared.status.Outcome.TheVariants.{Done, Usage, RulesRefused, ReadingsRefused, NeedsRepair}
 use Rattle.screen_tool.specs.declared.status.Ending.{Ending}
-use Rattle.screen_tool.specs.declared.status.Ending.TheVariants as ending
+use Rattle.screen_tool.specs.declared.status.Ending.TheVariants.{Ended, ReadFault, WriteFault, Memory}
 
 abbrev pub code_of : Status → ℕ
 code_of status.Done = 0
@@ -15,19 +17,20 @@ code_of status.WriteFault = 6
 code_of status.Memory = 7
 code_of status.NeedsRepair = 9
 
-abbrev pub status_of : Ending → Status
-status_of ending.Done = status.Done
-status_of ending.Usage = status.Usage
-status_of (ending.RulesRefused fault) = status.RulesRefused
-status_of (ending.ReadingsRefused fault) = status.ReadingsRefused
-status_of ending.ReadFault = status.ReadFault
-status_of ending.WriteFault = status.WriteFault
-status_of ending.Memory = status.Memory
-status_of ending.NeedsRepair = status.NeedsRepair
+abbrev pub outcome_status : Outcome → Status
+outcome_status Done = status.Done
+outcome_status Usage = status.Usage
+outcome_status (RulesRefused fault) = status.RulesRefused
+outcome_status (ReadingsRefused fault) = status.ReadingsRefused
+outcome_status NeedsRepair = status.NeedsRepair
 
--- the status that an outcome calls for, where no fault was counted and memory was found
-abbrev pub IsStatusFor : Ending → Status → Type 0
-IsStatusFor outcome status.ReadFault = Unit {0}
-IsStatusFor outcome status.WriteFault = Unit {0}
-IsStatusFor outcome status.Memory = Unit {0}
-IsStatusFor outcome answered = answered ≡ status_of outcome
+abbrev pub status_of : Ending → Status
+status_of (Ended outcome) = outcome_status outcome
+status_of ReadFault = status.ReadFault
+status_of WriteFault = status.WriteFault
+status_of Memory = status.Memory
+
+-- The status is that of the outcome, unless a read or a write failed or memory ran out.
+abbrev pub IsStatusFor : Outcome → Status → Type 0
+IsStatusFor outcome given =
+    (given ≡ outcome_status outcome) ⊎ ((given ≡ status.ReadFault) ⊎ ((given ≡ status.WriteFault) ⊎ (given ≡ status.Memory)))

@@ -1,5 +1,5 @@
 -- To be believed: what every command answers where its rules or its readings are refused.
-use Rattle.std.specs.Prelude.{◌≡◌, ℕ, List, Option, None, Result}
+use Rattle.std.specs.Prelude.{ℕ, ◌+◌, List, None}
 use Rattle.rule_file.specs.declared.fault.RuleFault.{RuleFault}
 use Rattle.rule_file.specs.Fault.{of_the_file as of_the_rules}
 use Rattle.series_csv.specs.Fault.{of_the_file as of_the_readings}
@@ -11,31 +11,31 @@ use Rattle.series_csv.specs.declared.table.Row.{Row}
 use Rattle.series_csv.specs.declared.read.TheConstants.{LONGEST as longest_readings}
 use Rattle.series_csv.specs.ReadingsFile.{Reads as ReadsReadings}
 use Rattle.screen_tool.specs.declared.speed.WholeSpeed.{WholeSpeed}
-use Rattle.screen_tool.specs.declared.status.Ending.{Ending}
-use Rattle.screen_tool.specs.declared.status.Ending.TheVariants.{RulesRefused, ReadingsRefused}
+use Rattle.screen_tool.specs.declared.status.Outcome.{Outcome}
+use Rattle.screen_tool.specs.declared.status.Outcome.TheVariants.{RulesRefused, ReadingsRefused}
 use Rattle.screen_tool.specs.Answer.{Extent, Whole, Begun, Unread, Answer, AfterFile, AreOne}
 use Rattle.screen_tool.specs.Narrow.{Reads as ReadsRules}
 
--- The answer that writes nothing, with how far the rules and the readings are read. No certificate is read.
-abbrev pub says : Ending → Extent → Extent → Answer
-says ending rules readings = record {
-  ending = ending;
+-- The answer that writes nothing, where the rules and the readings are read so far, and no certificate is.
+abbrev pub without_texts : Outcome → Extent → Extent → Answer
+without_texts outcome rules readings = record {
+  outcome = outcome;
   read = record { rules = rules; readings = readings; cert = Unread };
   cert = None;
   out = None;
 }
 
 abbrev pub rules_too_long : Answer
-rules_too_long = says (RulesRefused (of_the_rules rules.FileTooLong)) Begun Unread
+rules_too_long = without_texts (RulesRefused (of_the_rules rules.FileTooLong)) (Begun (longest_rules + 1)) Unread
 
 abbrev pub rules_refused : RuleFault → Answer
-rules_refused fault = says (RulesRefused fault) Whole Unread
+rules_refused fault = without_texts (RulesRefused fault) Whole Unread
 
 abbrev pub readings_too_long : Answer
-readings_too_long = says (ReadingsRefused (of_the_readings readings.FileTooLong)) Whole Begun
+readings_too_long = without_texts (ReadingsRefused (of_the_readings readings.FileTooLong)) Whole (Begun (longest_readings + 1))
 
 abbrev pub readings_refused : TableFault → Answer
-readings_refused fault = says (ReadingsRefused fault) Whole Whole
+readings_refused fault = without_texts (ReadingsRefused fault) Whole Whole
 
 -- The rules come first, and the readings are not begun unless they are accepted.
 abbrev pub AfterRules : List ℕ → (WholeSpeed → Answer → Type 0) → Answer → Type 0

@@ -6,10 +6,10 @@ use Rattle.series_csv.specs.Text.{table_text}
 use Rattle.screen_model.specs.Obeys.{Obeys, without_prices}
 use Rattle.screen_tool.specs.declared.ends.Inputs.{Inputs}
 use Rattle.screen_tool.specs.declared.speed.WholeSpeed.{WholeSpeed}
-use Rattle.screen_tool.specs.declared.status.Ending.TheVariants.{Done, NeedsRepair}
+use Rattle.screen_tool.specs.declared.status.Outcome.TheVariants.{Done, NeedsRepair}
 use Rattle.screen_tool.specs.Answer.{Whole, Unread, Answer}
 use Rattle.screen_tool.specs.Bounds.{bounds}
-use Rattle.screen_tool.specs.Files.{says, AfterRules, AfterReadings}
+use Rattle.screen_tool.specs.Files.{without_texts, AfterRules, AfterReadings}
 
 -- the certificate of readings that need no repair
 abbrev pub unchanged_cert : List ℕ
@@ -26,14 +26,14 @@ unchanged_text found rows = table_text found.sensor rows (values rows)
 -- both files are whole, and readings that obey are written as they are
 abbrev pub unchanged : WholeSpeed → List Row → Answer
 unchanged found rows = record {
-  ending = Done;
+  outcome = Done;
   read = record { rules = Whole; readings = Whole; cert = Unread };
   cert = Some unchanged_cert;
   out = Some (unchanged_text found rows);
 }
 
 abbrev pub needs_repair : Answer
-needs_repair = says NeedsRepair Whole Whole
+needs_repair = without_texts NeedsRepair Whole Whole
 
 abbrev pub AnswersRows : WholeSpeed → List Row → Answer → Type 0
 AnswersRows found rows answer =

@@ -2,6 +2,7 @@
 use Rattle.std.specs.Prelude.{◌≡◌, ◌≢◌, ◌⊎◌, ℕ, List, Option, Some, Ok}
 use Rattle.series_csv.specs.declared.table.Row.{Row}
 use Rattle.series_csv.specs.ReadingsFile.{Reads as ReadsReadings}
+use Rattle.screen_io.specs.Faults.{Rose}
 use Rattle.screen_io.specs.Sink.{Gains}
 use Rattle.screen_tool.specs.declared.ends.Inputs.{Inputs}
 use Rattle.screen_tool.specs.declared.ends.Outputs.{Outputs}
@@ -11,28 +12,38 @@ use Rattle.screen_tool.specs.declared.status.Status.TheVariants.{Done, ReadFault
 use Rattle.screen_tool.specs.Global.{ReadingsObey, unchanged_cert, unchanged_text}
 use Rattle.screen_tool.specs.Narrow.{Reads as ReadsRules}
 
--- The status is this one, apart from counted read and write faults and want of memory.
-abbrev pub IsApartFromFaults : Status → Status → Type 0
-IsApartFromFaults due given = (given ≡ due) ⊎ ((given ≡ ReadFault) ⊎ ((given ≡ WriteFault) ⊎ (given ≡ Memory)))
+module _ {S K : Type 0} (left : S → Option (List ℕ)) (source_faults : S → ℕ) (held : K → Option (List ℕ)) (sink_faults : K → ℕ) where
+  -- a source that the command reads counted a fault
+  abbrev pub CountsReadFault : Inputs S → Inputs S → Type 0
+  CountsReadFault ins now =
+      Rose (source_faults ins.rules) (source_faults now.rules) ⊎ Rose (source_faults ins.readings) (source_faults now.readings)
 
-module _ {K : Type 0} (held : K → Option (List ℕ)) where
-  -- For accepted rules and readings: 0 is answered exactly where the readings obey every bound, and then the
-  -- certificate and the unchanged readings are written; 9 exactly where they do not; and with every status but 0
-  -- and 6 both sinks are as before.
-  pub record RepairsNothing (found : WholeSpeed) (rows : List Row) (outs now : Outputs K) (given : Status) : Type 0 where
-    pub obeys : ReadingsObey found rows → IsApartFromFaults Done given
-    pub breaks : (¬ ReadingsObey found rows) → IsApartFromFaults NeedsRepair given
+  -- a sink that the command writes counted a fault
+  abbrev pub CountsWriteFault : Outputs K → Outputs K → Type 0
+  CountsWriteFault outs now = Rose (sink_faults outs.cert) (sink_faults now.cert) ⊎ Rose (sink_faults outs.out) (sink_faults now.out)
+
+  -- The status is this one, apart from a counted read or write fault and want of memory.
+  abbrev pub IsApartFromFaults : Inputs S → Inputs S → Outputs K → Outputs K → Status → Status → Type 0
+  IsApartFromFaults ins ins_now outs outs_now due given =
+      (given ≡ due)
+      ⊎ (((given ≡ ReadFault) × CountsReadFault ins ins_now) ⊎ (((given ≡ WriteFault) × CountsWriteFault outs outs_now) ⊎ (given ≡ Memory)))
+
+  -- Apart from these, 0 is answered exactly where the readings obey every bound, and then the certificate and the
+  -- unchanged readings are written; 9 exactly where they do not; and with every status but 0 and 6 both sinks are the
+  -- same as before.
+  pub record Separates (found : WholeSpeed) (rows : List Row) (ins ins_now : Inputs S) (outs outs_now : Outputs K) (given : Status) : Type 0 where
+    pub obeys : ReadingsObey found rows → IsApartFromFaults ins ins_now outs outs_now Done given
+    pub breaks : (¬ ReadingsObey found rows) → IsApartFromFaults ins ins_now outs outs_now NeedsRepair given
     pub done : given ≡ Done → ReadingsObey found rows
     pub needs : given ≡ NeedsRepair → ¬ ReadingsObey found rows
-    pub cert : given ≡ Done → Gains (held outs.cert) unchanged_cert (held now.cert)
-    pub out : given ≡ Done → Gains (held outs.out) (unchanged_text found rows) (held now.out)
-    pub kept : given ≢ Done → given ≢ WriteFault → (now.cert ≡ outs.cert) × (now.out ≡ outs.out)
+    pub cert : given ≡ Done → Gains (held outs.cert) unchanged_cert (held outs_now.cert)
+    pub out : given ≡ Done → Gains (held outs.out) (unchanged_text found rows) (held outs_now.out)
+    pub kept : given ≢ Done → given ≢ WriteFault → (outs_now.cert ≡ outs.cert) × (outs_now.out ≡ outs.out)
 
--- So it is for the command `global` over every rule file and every readings file that are accepted.
-module _ {S K : Type 0} (left : S → Option (List ℕ)) (held : K → Option (List ℕ)) where
-  abbrev pub Headline : Inputs S → Outputs K → Outputs K → Status → Type 0
-  Headline ins outs now given =
+  -- So it is over every rule file and every readings file that are accepted.
+  abbrev pub Headline : Inputs S → Inputs S → Outputs K → Outputs K → Status → Type 0
+  Headline ins ins_now outs outs_now given =
       (rule_bytes reading_bytes : List ℕ) (found : WholeSpeed) (rows : List Row)
       → left ins.rules ≡ Some rule_bytes → left ins.readings ≡ Some reading_bytes
       → ReadsRules rule_bytes (Ok found) → ReadsReadings found.sensor reading_bytes (Ok rows)
-      → RepairsNothing held found rows outs now given
+      → Separates found rows ins ins_now outs outs_now given

@@ -1,4 +1,4 @@
--- The limits of a speed rule on whole numbers.
+-- To be believed: the limits of a speed rule on whole numbers.
 use Rattle.std.specs.Prelude.{◌≢◌, ℕ, ◌≤◌, ℤ, pos, negsuc, ◌≤ℤ◌, Bool, ◌&&◌, nat_le, IsTrue, List, length, codes}
 use Rattle.std.specs.List.{list_all}
 

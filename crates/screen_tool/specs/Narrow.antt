@@ -1,5 +1,5 @@
 -- To be believed: the rules that the program works with so far.
-use Rattle.std.specs.Prelude.{◌≡◌, ◌≢◌, ◌⊎◌, ℕ, ◌*◌, ◌^◌, pos, ◌*ℤ◌, List, [], ◌∷◌, Option, Some, None, Result, Ok, Err, codes}
+use Rattle.std.specs.Prelude.{◌≡◌, ◌⊎◌, ℕ, ◌*◌, ◌^◌, pos, ◌*ℤ◌, List, [], ◌∷◌, Option, Some, None, Result, Ok, Err, codes}
 use Rattle.time_text.specs.declared.form.TimeForm.TheVariants.{Sec}
 use Rattle.rule_file.specs.declared.fault.RuleCause.TheVariants.{NotBuilt}
 use Rattle.rule_file.specs.declared.fault.RuleFault.{RuleFault}

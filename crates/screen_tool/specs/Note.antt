@@ -1,11 +1,13 @@
--- What the program says of each ending.
+-- To be believed: what the program says of each ending.
 use Rattle.std.specs.Prelude.{ℕ, List, [], ◌++◌, codes, decimal}
 use Rattle.rule_file.specs.declared.fault.RuleCause.{RuleCause}
 use Rattle.rule_file.specs.declared.fault.RuleCause.TheVariants as rules
 use Rattle.series_csv.specs.declared.fault.TableCause.{TableCause}
 use Rattle.series_csv.specs.declared.fault.TableCause.TheVariants as readings
 use Rattle.screen_tool.specs.declared.status.Ending.{Ending}
-use Rattle.screen_tool.specs.declared.status.Ending.TheVariants.{Done, Usage, RulesRefused, ReadingsRefused, ReadFault, WriteFault, Memory, NeedsRepair}
+use Rattle.screen_tool.specs.declared.status.Ending.TheVariants.{Ended, ReadFault, WriteFault, Memory}
+use Rattle.screen_tool.specs.declared.status.Outcome.{Outcome}
+use Rattle.screen_tool.specs.declared.status.Outcome.TheVariants.{Done, Usage, RulesRefused, ReadingsRefused, NeedsRepair}
 
 abbrev pub rule_cause_name : RuleCause → List ℕ
 rule_cause_name rules.NotBuilt = codes "NotBuilt"
@@ -31,13 +33,16 @@ abbrev pub usage_text : List ℕ
 usage_text = codes "usage: screen global RULES READINGS CERT\n"
 
 -- one line, and none where all is well
-abbrev pub note_text : Ending → List ℕ
-note_text Done = []
-note_text Usage = usage_text
-note_text (RulesRefused fault) = codes "screen: rules refused: " ++ rule_cause_name fault.cause ++ codes ", rule " ++ decimal fault.rule ++ codes "\n"
-note_text (ReadingsRefused fault) =
+abbrev pub outcome_text : Outcome → List ℕ
+outcome_text Done = []
+outcome_text Usage = usage_text
+outcome_text (RulesRefused fault) = codes "screen: rules refused: " ++ rule_cause_name fault.cause ++ codes ", rule " ++ decimal fault.rule ++ codes "\n"
+outcome_text (ReadingsRefused fault) =
     codes "screen: readings refused: " ++ table_cause_name fault.cause ++ codes ", row " ++ decimal fault.row ++ codes ", column " ++ decimal fault.col ++ codes "\n"
+outcome_text NeedsRepair = codes "screen: the readings need repair\n"
+
+abbrev pub note_text : Ending → List ℕ
+note_text (Ended outcome) = outcome_text outcome
 note_text ReadFault = codes "screen: a read failed\n"
 note_text WriteFault = codes "screen: a write failed\n"
 note_text Memory = codes "screen: out of memory\n"
-note_text NeedsRepair = codes "screen: the readings need repair\n"

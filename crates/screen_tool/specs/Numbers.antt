@@ -1,4 +1,4 @@
--- The speed rule of some numbers.
+-- For proofs: the speed rule of some numbers.
 use Rattle.screen_tool.specs.declared.speed.Numbers.{Numbers}
 use Rattle.screen_tool.specs.declared.speed.WholeSpeed.{WholeSpeed}
 

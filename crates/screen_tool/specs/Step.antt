@@ -1,5 +1,5 @@
 -- For proofs: what the steps of a command leave, before it writes anything.
-use Rattle.std.specs.Prelude.{◌≡◌, ◌≢◌, ◌⊎◌, ℕ, ◌<◌, ◌≤◌, List, length, Option, Some, None, option_map, Result, Ok, Err, Vec}
+use Rattle.std.specs.Prelude.{◌≡◌, ℕ, ◌+◌, ◌<◌, ◌≤◌, List, length, Option, None, option_map, Result, Ok, Err, Vec}
 use Rattle.std.specs.declared.alloc.Global.{Global as Heap}
 use Rattle.rule_file.specs.declared.fault.RuleFault.{RuleFault}
 use Rattle.rule_file.specs.Fault.{of_the_file as of_the_rules}
@@ -8,15 +8,16 @@ use Rattle.rule_file.specs.declared.fault.RuleCause.TheVariants as rules
 use Rattle.series_csv.specs.declared.fault.TableFault.{TableFault}
 use Rattle.series_csv.specs.declared.fault.TableCause.TheVariants as readings
 use Rattle.screen_io.specs.Faults.{Rose}
-use Rattle.screen_tool.specs.declared.command.Command.{Command}
+use Rattle.screen_io.specs.Source.{Takes}
 use Rattle.screen_tool.specs.declared.ends.Inputs.{Inputs}
 use Rattle.screen_tool.specs.declared.reply.Reply.{Reply}
 use Rattle.screen_tool.specs.declared.status.Ending.{Ending}
 use Rattle.screen_tool.specs.declared.status.Ending.TheVariants as ending
+use Rattle.screen_tool.specs.declared.status.Outcome.TheVariants.{RulesRefused, ReadingsRefused}
 use Rattle.screen_tool.specs.declared.step.StepFault.{StepFault}
 use Rattle.screen_tool.specs.declared.step.StepFault.TheVariants.{TooLong, Refused, Failed, Memory}
 use Rattle.screen_tool.specs.Answer.{Whole, Begun, Answer}
-use Rattle.screen_tool.specs.Performance.{IsRead, IsAnswered, Stops, CountsNoFault}
+use Rattle.screen_tool.specs.Performance.{IsAnswerTo, IsRead, IsAnswered, Starves, Stays, Stops}
 
 -- what is found in bytes that were read, by what they are read as
 abbrev pub IsFound : {A F : Type 0} → (List ℕ → Result A F → Type 0) → List ℕ → Result A (StepFault F) → Type 0
@@ -28,50 +29,58 @@ IsFound Reads bytes (Err Failed) = ⊥
 
 -- how a command ends at a fault of its rules, and of its readings
 abbrev pub rules_ending : StepFault RuleFault → Ending
-rules_ending TooLong = ending.RulesRefused (of_the_rules rules.FileTooLong)
-rules_ending (Refused fault) = ending.RulesRefused fault
+rules_ending TooLong = ending.Ended (RulesRefused (of_the_rules rules.FileTooLong))
+rules_ending (Refused fault) = ending.Ended (RulesRefused fault)
 rules_ending Failed = ending.ReadFault
 rules_ending Memory = ending.Memory
 
 abbrev pub readings_ending : StepFault TableFault → Ending
-readings_ending TooLong = ending.ReadingsRefused (of_the_readings readings.FileTooLong)
-readings_ending (Refused fault) = ending.ReadingsRefused fault
+readings_ending TooLong = ending.Ended (ReadingsRefused (of_the_readings readings.FileTooLong))
+readings_ending (Refused fault) = ending.Ended (ReadingsRefused fault)
 readings_ending Failed = ending.ReadFault
 readings_ending Memory = ending.Memory
 
--- The reply is the answer: how it ends, and its texts.
+-- The reply is the answer: what it comes to, and its texts.
 pub record IsReplyOf (answer : Answer) (reply : Reply) : Type 0 where
-  pub ending : answer.ending ≡ reply.ending
+  pub outcome : answer.outcome ≡ reply.outcome
   pub cert : answer.cert ≡ option_map (λ text. text.items) reply.cert
   pub out : answer.out ≡ option_map (λ text. text.items) reply.out
 
 module _ {S : Type 0} (left : S → Option (List ℕ)) (source_faults : S → ℕ) where
-  -- What a step leaves that reads a file of at most so many bytes.
+  -- Reading stopped, and what came is the front of what was there; this happened to the count of faults.
+  abbrev pub IsStopped : (ℕ → ℕ → Type 0) → S → S → Type 0
+  IsStopped Happens source now = (came : List ℕ) × Takes (left source) came (left now) × Happens (source_faults source) (source_faults now)
+
+  -- More came than the limit, and no more than one byte beyond it.
+  abbrev pub IsTooLong : ℕ → S → S → Type 0
+  IsTooLong longest source now = (bytes : List ℕ) × IsRead left source_faults (Begun (longest + 1)) source now bytes × (longest < length bytes)
+
+  -- What reading the bytes of a file of at most so many bytes leaves.
+  abbrev pub WasRead : {F : Type 0} → ℕ → S → S → Result (Vec ℕ Heap) (StepFault F) → Type 0
+  WasRead longest source now (Ok bytes) = IsRead left source_faults Whole source now bytes.items × (length bytes.items ≤ longest)
+  WasRead longest source now (Err TooLong) = IsTooLong longest source now
+  WasRead longest source now (Err Failed) = IsStopped Rose source now
+  WasRead longest source now (Err Memory) = IsStopped Stays source now
+  WasRead longest source now (Err (Refused fault)) = ⊥
+
+  -- What a step leaves that reads such a file.
   abbrev pub IsStep : {A F : Type 0} → ℕ → (List ℕ → Result A F → Type 0) → S → S → Result A (StepFault F) → Type 0
   IsStep longest Reads source now (Ok value) =
       (bytes : List ℕ) × IsRead left source_faults Whole source now bytes × (length bytes ≤ longest) × Reads bytes (Ok value)
-  IsStep longest Reads source now (Err TooLong) = (bytes : List ℕ) × IsRead left source_faults Begun source now bytes × (longest < length bytes)
+  IsStep longest Reads source now (Err TooLong) = IsTooLong longest source now
   IsStep longest Reads source now (Err (Refused fault)) =
       (bytes : List ℕ) × IsRead left source_faults Whole source now bytes × (length bytes ≤ longest) × Reads bytes (Err fault)
-  IsStep longest Reads source now (Err Failed) = Rose (source_faults source) (source_faults now)
-  IsStep longest Reads source now (Err Memory) = source_faults now ≡ source_faults source
-
-  -- What reading the bytes of such a file leaves.
-  abbrev pub WasRead : {F : Type 0} → ℕ → S → S → Result (Vec ℕ Heap) (StepFault F) → Type 0
-  WasRead longest source now (Ok bytes) = IsRead left source_faults Whole source now bytes.items × (length bytes.items ≤ longest)
-  WasRead longest source now (Err TooLong) = (bytes : List ℕ) × IsRead left source_faults Begun source now bytes × (longest < length bytes)
-  WasRead longest source now (Err Failed) = Rose (source_faults source) (source_faults now)
-  WasRead longest source now (Err Memory) = source_faults now ≡ source_faults source
-  WasRead longest source now (Err (Refused fault)) = ⊥
+  IsStep longest Reads source now (Err Failed) = IsStopped Rose source now
+  IsStep longest Reads source now (Err Memory) = IsStopped Stays source now
 
   -- the command's sources were read for this reply
-  abbrev pub Replies : Option Command → Inputs S → Inputs S → Reply → Type 0
-  Replies command ins now reply = (answer : Answer) × IsReplyOf answer reply × IsAnswered left source_faults command ins now answer
+  abbrev pub Replies : IsAnswerTo → Inputs S → Inputs S → Reply → Type 0
+  Replies Answers ins now reply = (answer : Answer) × IsReplyOf answer reply × IsAnswered left source_faults Answers ins now answer
 
   -- the command ends so, and has nothing to write
-  abbrev pub Ends : Option Command → Inputs S → Inputs S → Ending → Type 0
-  Ends command ins now ending.ReadFault = Stops left source_faults command ins now
-  Ends command ins now ending.Memory = CountsNoFault left source_faults ins now
-  Ends command ins now ending.WriteFault = ⊥
-  Ends command ins now how =
-      (answer : Answer) × (answer.ending ≡ how) × (answer.cert ≡ None) × (answer.out ≡ None) × IsAnswered left source_faults command ins now answer
+  abbrev pub Ends : IsAnswerTo → Inputs S → Inputs S → Ending → Type 0
+  Ends Answers ins now (ending.Ended outcome) =
+      (answer : Answer) × (answer.outcome ≡ outcome) × (answer.cert ≡ None) × (answer.out ≡ None) × IsAnswered left source_faults Answers ins now answer
+  Ends Answers ins now ending.ReadFault = Stops left source_faults Rose Answers ins now
+  Ends Answers ins now ending.WriteFault = ⊥
+  Ends Answers ins now ending.Memory = Starves left source_faults Answers ins now

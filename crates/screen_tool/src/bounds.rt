@@ -1,3 +1,4 @@
+//! Whether readings obey the bounds of their rules.
 ghost use Rattle.std.specs.Prelude.{◌≡◌, ◌↔◌, ◌<◌, ◌≤◌, ◌∷◌, ◌-ℤ◌, ◌*ℤ◌, ◌≤ℤ◌, IsTrue, unsigned_abs};
 ghost use Rattle.std.specs.List.{AllByRecursion};
 ghost use Rattle.screen_model.specs.Obeys.{Obeys, without_prices};

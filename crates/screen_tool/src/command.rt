@@ -1,3 +1,4 @@
+//! The words of commands, and what each end of a command is.
 ghost use Rattle.std.specs.Prelude.{◌≡◌, map, string_bytes};
 ghost use Rattle.screen_tool.specs.Command.{command_of, roles_of, texts};
 
@@ -10,7 +11,7 @@ pub enum Command {
     Global,
 }
 
-/// The command that the words ask for, and `None` where they are no form of a command. The words do
+/// The command that the words ask for, and `None` where they ask for none. The words do
 /// not hold the program's name.
 pub(crate) fn command_from(words: &[String]) -> Option<Command>
     ensures { result ≡ command_of (texts words.now) }

@@ -1,3 +1,4 @@
+//! The ends of the program: what it reads from and writes to.
 /// What the program reads from.
 #[derive(Drop)]
 pub struct Inputs<S> {

@@ -64,9 +64,7 @@ fn rules_of(alloc: Global, bytes: &[u8]) -> Result<WholeSpeed, StepFault<RuleFau
     };
     match whole_speed(alloc, &rules) {
         Ok(Some(speed)) => Ok(speed),
-        Ok(None) => Err(StepFault::Refused(RuleFault::of_the_file(
-            RuleCause::NotBuilt,
-        ))),
+        Ok(None) => Err(StepFault::Refused(RuleFault::of_the_file(RuleCause::NotBuilt))),
         Err(AllocError) => Err(StepFault::Memory),
     }
 }

@@ -1,5 +1,5 @@
 //! Laws of what the commands answer.
-ghost use Rattle.screen_tool.specs.Answers.{OneEnding, RestsOnRead};
+ghost use Rattle.screen_tool.specs.Answers.{OneOutcome, RestsOnRead};
 ghost use Rattle.screen_tool.specs.Files.{RulesAreOne, ReadingsAreOne};
 
 /// The rules are read as one thing only, and so are the readings.
@@ -11,9 +11,9 @@ pub(crate) fn files_are_one()
     series_csv::one_answer();
 }
 
-/// A command ends in one way only, whatever its sources hold and whatever text it may choose.
-pub fn one_ending()
-    ensures { OneEnding }
+/// A command comes to one outcome only, whatever its sources hold and whatever text it may choose.
+pub fn one_outcome()
+    ensures { OneOutcome }
 {
     files_are_one();
 }

@@ -23,7 +23,7 @@ mod tests;
 
 pub use command::{Command, roles};
 pub use ends::{EndUse, Inputs, Outputs, Roles};
-pub use laws::{one_ending, rests_on_read};
+pub use laws::{one_outcome, rests_on_read};
 pub use outside::real_ends;
 pub use program::run;
-pub use status::{Ending, Status};
+pub use status::{Ending, Outcome, Status};

@@ -1,8 +1,9 @@
+//! What the program says on standard error.
 ghost use Rattle.std.specs.Prelude.{◌≡◌, ◌+◌, ◌++◌, ◌≤◌, length, decimal};
 ghost use Rattle.arrayvec.specs.ArrayString.{array_string_len};
-ghost use Rattle.screen_tool.specs.Note.{note_text, rule_cause_name, table_cause_name};
+ghost use Rattle.screen_tool.specs.Note.{note_text, outcome_text, rule_cause_name, table_cause_name};
 
-use crate::status::Ending;
+use crate::status::{Ending, Outcome};
 use arrayvec::ArrayString;
 use itoa::Buffer;
 use rule_file::{RuleCause, RuleFault};
@@ -22,20 +23,31 @@ pub(crate) fn note_of(ending: &Ending) -> Note
 {
     let mut note = Note::new();
     match ending {
-        Ending::Done => {}
-        Ending::Usage => note.push_str(USAGE),
-        Ending::RulesRefused(fault) => return rules_note(fault),
-        Ending::ReadingsRefused(fault) => return readings_note(fault),
+        Ending::Ended(outcome) => return outcome_note(outcome),
         Ending::ReadFault => note.push_str("screen: a read failed\n"),
         Ending::WriteFault => note.push_str("screen: a write failed\n"),
         Ending::Memory => note.push_str("screen: out of memory\n"),
-        Ending::NeedsRepair => note.push_str("screen: the readings need repair\n"),
+    }
+    note
+}
+
+/// What the program says of what a command comes to.
+fn outcome_note(outcome: &Outcome) -> Note
+    ensures { result.bytes ≡ outcome_text outcome.now }
+{
+    let mut note = Note::new();
+    match outcome {
+        Outcome::Done => {}
+        Outcome::Usage => note.push_str(USAGE),
+        Outcome::RulesRefused(fault) => return rules_note(fault),
+        Outcome::ReadingsRefused(fault) => return readings_note(fault),
+        Outcome::NeedsRepair => note.push_str("screen: the readings need repair\n"),
     }
     note
 }
 
 fn rules_note(fault: &RuleFault) -> Note
-    ensures { result.bytes ≡ note_text (Ending.RulesRefused fault.now) }
+    ensures { result.bytes ≡ outcome_text (Outcome.RulesRefused fault.now) }
 {
     let mut note = Note::new();
     note.push_str("screen: rules refused: ");
@@ -47,7 +59,7 @@ fn rules_note(fault: &RuleFault) -> Note
 }
 
 fn readings_note(fault: &TableFault) -> Note
-    ensures { result.bytes ≡ note_text (Ending.ReadingsRefused fault.now) }
+    ensures { result.bytes ≡ outcome_text (Outcome.ReadingsRefused fault.now) }
 {
     let mut note = Note::new();
     note.push_str("screen: readings refused: ");

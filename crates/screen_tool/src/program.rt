@@ -1,6 +1,7 @@
 //! What the program does with its words, its sources and its sinks.
 ghost use Rattle.std.specs.Prelude.{◌≡◌, ◌≢◌, ◌↔◌, Some, None, Err, IfOk, MatchResult};
 ghost use Rattle.screen_tool.specs.Answer.{Answer};
+ghost use Rattle.screen_tool.specs.Answers.{Answers};
 ghost use Rattle.screen_tool.specs.Command.{command_of, roles_of, texts};
 ghost use Rattle.screen_tool.specs.Ending.{status_of};
 ghost use Rattle.screen_tool.specs.Headline.{Headline};
@@ -11,10 +12,10 @@ ghost use Rattle.screen_tool.specs.Step.{Ends, IsReplyOf, Replies};
 use crate::command::{Command, command_from};
 use crate::ends::{Inputs, Outputs};
 use crate::global::global;
-use crate::laws::{files_are_one, one_ending, rests_on_read};
+use crate::laws::{files_are_one, one_outcome, rests_on_read};
 use crate::note::note_of;
 use crate::reply::{Reply, write_text};
-use crate::status::{Ending, Status};
+use crate::status::{Ending, Outcome, Status};
 use screen_io::{Failed, Sink, Source, write_all_of};
 use std::alloc::Global;
 
@@ -37,19 +38,19 @@ pub fn run<S: Source, K: Sink>(
     // How the run ends: that is the status, it is noted, and the sources and sinks are left as it says.
     ensures performs { (ending : Ending) × (result ≡ status_of ending)
         × IsNoted K.held K.faults (note_text ending) outs.old.note outs.new.note
-        × Performs S.left S.faults K.held K.faults (command_of (texts words.now)) ins.old ins.new outs.old outs.new ending }
+        × Performs S.left S.faults K.held K.faults (Answers (command_of (texts words.now))) ins.old ins.new outs.old outs.new ending }
     ensures unused { LeavesUnused (roles_of (command_of (texts words.now))) ins.old ins.new outs.old outs.new }
 
     // What is due is answered, apart from counted faults and want of memory.
-    ensures due { IsDue S.left (command_of (texts words.now)) ins.old result }
+    ensures due { IsDue S.left (roles_of (command_of (texts words.now))) (Answers (command_of (texts words.now))) ins.old result }
 
     // What the program is for.
     ensures headline { command_of (texts words.now) ≡ Some Command.Global →
-        Headline S.left K.held ins.old outs.old outs.new result }
+        Headline S.left S.faults K.held K.faults ins.old ins.new outs.old outs.new result }
 {
     // The laws behind `due` and `headline`; they do nothing.
     files_are_one();
-    one_ending();
+    one_outcome();
     rests_on_read();
     let ending = ending_of(alloc, command_from(words), ins, outs);
     let note = note_of(&ending);
@@ -64,14 +65,14 @@ fn ending_of<S: Source, K: Sink>(
     ins: &mut Inputs<S>,
     outs: &mut Outputs<K>,
 ) -> Ending
-    ensures performs { Performs S.left S.faults K.held K.faults command ins.old ins.new outs.old outs.new result }
-    ensures usage { (result ≡ Ending.Usage) ↔ (command ≡ None) }
+    ensures performs { Performs S.left S.faults K.held K.faults (Answers command) ins.old ins.new outs.old outs.new result }
+    ensures usage { (result ≡ Ending.Ended Outcome.Usage) ↔ (command ≡ None) }
     ensures unused { LeavesUnused (roles_of command) ins.old ins.new outs.old outs.new }
     ensures note { outs.new.note ≡ outs.old.note }
 {
     match reply_of(alloc, command, ins) {
         Ok(reply) => match write_reply(&reply, outs) {
-            Ok(()) => reply.ending,
+            Ok(()) => Ending::Ended(reply.outcome),
             Err(Failed) => Ending::WriteFault,
         },
         Err(ending) => ending,
@@ -85,16 +86,16 @@ fn reply_of<S: Source>(
     ins: &mut Inputs<S>,
 ) -> Result<Reply, Ending>
     ensures answer { MatchResult result
-        (Replies S.left S.faults command ins.old ins.new)
-        (Ends S.left S.faults command ins.old ins.new) }
-    ensures usage { (result ≡ Err Ending.Usage) ↔ (command ≡ None) }
-    ensures done { IfOk result (λ reply. reply.ending ≢ Ending.Usage) }
+        (Replies S.left S.faults (Answers command) ins.old ins.new)
+        (Ends S.left S.faults (Answers command) ins.old ins.new) }
+    ensures usage { (result ≡ Err (Ending.Ended Outcome.Usage)) ↔ (command ≡ None) }
+    ensures done { IfOk result (λ reply. reply.outcome ≢ Outcome.Usage) }
     ensures unread { ins.new.cert ≡ ins.old.cert }
     ensures idle { command ≡ None → ins.new ≡ ins.old }
 {
     match command {
         Some(Command::Global) => global(alloc, ins),
-        None => Err(Ending::Usage),
+        None => Err(Ending::Ended(Outcome::Usage)),
     }
 }
 

@@ -2,14 +2,14 @@
 ghost use Rattle.std.specs.Prelude.{◌≡◌, Option, List, ℕ, OnOk, OnErr, option_map};
 ghost use Rattle.screen_tool.specs.Performance.{IsCut, IsWritten};
 
-use crate::status::Ending;
+use crate::status::Outcome;
 use screen_io::{Failed, Sink, write_all_of};
 
-/// How a command ends, and the texts that it writes.
+/// What a command comes to, and the texts that it writes.
 #[derive(Drop)]
 pub(crate) struct Reply {
-    /// How it ends where every text is written.
-    pub(crate) ending: Ending,
+    /// What it comes to, once every text is written.
+    pub(crate) outcome: Outcome,
     /// The certificate, if one is written.
     pub(crate) cert: Option<Vec<u8>>,
     /// What goes to the output, if anything does.

@@ -12,7 +12,7 @@ use std::alloc::AllocError;
 pub enum Status {
     /// 0: all that the command writes is written.
     Done,
-    /// 2: the words are no form of a command.
+    /// 2: the words ask for no command.
     Usage,
     /// 3: the rules are refused.
     RulesRefused,
@@ -46,25 +46,32 @@ impl Status {
     }
 }
 
-/// How a run ended, with what was refused.
+/// What a command comes to, with what is refused.
 #[derive(Clone, Copy, Debug, PartialEq, Eq)]
-pub enum Ending {
+pub enum Outcome {
     /// All that the command writes is written.
     Done,
-    /// The words are no form of a command.
+    /// The words ask for no command.
     Usage,
     /// The rules are refused.
     RulesRefused(RuleFault),
     /// The readings are refused.
     ReadingsRefused(TableFault),
+    /// The readings do not obey the rules.
+    NeedsRepair,
+}
+
+/// How a run ended.
+#[derive(Clone, Copy, Debug, PartialEq, Eq)]
+pub enum Ending {
+    /// The command came to this, and all of its texts are written.
+    Ended(Outcome),
     /// A read failed.
     ReadFault,
     /// A write failed.
     WriteFault,
     /// Memory ran out.
     Memory,
-    /// The readings do not obey the rules.
-    NeedsRepair,
 }
 
 impl Ending {
@@ -73,14 +80,14 @@ impl Ending {
         ensures { result ≡ status_of self.now }
     {
         match self {
-            Ending::Done => Status::Done,
-            Ending::Usage => Status::Usage,
-            Ending::RulesRefused(_) => Status::RulesRefused,
-            Ending::ReadingsRefused(_) => Status::ReadingsRefused,
+            Ending::Ended(Outcome::Done) => Status::Done,
+            Ending::Ended(Outcome::Usage) => Status::Usage,
+            Ending::Ended(Outcome::RulesRefused(_)) => Status::RulesRefused,
+            Ending::Ended(Outcome::ReadingsRefused(_)) => Status::ReadingsRefused,
+            Ending::Ended(Outcome::NeedsRepair) => Status::NeedsRepair,
             Ending::ReadFault => Status::ReadFault,
             Ending::WriteFault => Status::WriteFault,
             Ending::Memory => Status::Memory,
-            Ending::NeedsRepair => Status::NeedsRepair,
         }
     }
 }
@@ -104,10 +111,10 @@ impl From<StepFault<RuleFault>> for Ending {
 
     fn from(fault: StepFault<RuleFault>) -> Ending {
         match fault {
-            StepFault::TooLong => {
-                Ending::RulesRefused(RuleFault::of_the_file(RuleCause::FileTooLong))
-            }
-            StepFault::Refused(fault) => Ending::RulesRefused(fault),
+            StepFault::TooLong => Ending::Ended(Outcome::RulesRefused(RuleFault::of_the_file(
+                RuleCause::FileTooLong,
+            ))),
+            StepFault::Refused(fault) => Ending::Ended(Outcome::RulesRefused(fault)),
             StepFault::Failed => Ending::ReadFault,
             StepFault::Memory => Ending::Memory,
         }
@@ -122,10 +129,10 @@ impl From<StepFault<TableFault>> for Ending {
 
     fn from(fault: StepFault<TableFault>) -> Ending {
         match fault {
-            StepFault::TooLong => {
-                Ending::ReadingsRefused(TableFault::of_the_file(TableCause::FileTooLong))
-            }
-            StepFault::Refused(fault) => Ending::ReadingsRefused(fault),
+            StepFault::TooLong => Ending::Ended(Outcome::ReadingsRefused(TableFault::of_the_file(
+                TableCause::FileTooLong,
+            ))),
+            StepFault::Refused(fault) => Ending::Ended(Outcome::ReadingsRefused(fault)),
             StepFault::Failed => Ending::ReadFault,
             StepFault::Memory => Ending::Memory,
         }

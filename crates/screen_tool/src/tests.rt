@@ -1,3 +1,4 @@
+//! Whole runs of the program over sources and sinks in memory.
 use super::{Command, EndUse, Inputs, Outputs, Status, roles, run};
 use crate::command::command_from;
 use screen_io::{MemSink, MemSource, Source};

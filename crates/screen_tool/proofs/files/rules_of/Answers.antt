@@ -1,4 +1,4 @@
-use Rattle.std.proofs.Common.{◌≢◌, inl, inr, rules, refl}
+use Rattle.std.proofs.Common.{◌≢◌, inl, inr, rules}
 use Rattle.rule_file.specs.Fault.{of_the_file}
 use Rattle.rule_file.specs.declared.fault.RuleCause.TheVariants.{Memory}
 use Rattle.screen_tool.specs.declared.speed.WholeSpeed.{WholeSpeed}

@@ -1,7 +1,7 @@
-use Rattle.std.proofs.Common.{Some, refl, sym, ap, inl, inr}
+use Rattle.std.proofs.Common.{refl, inl, inr}
 use Rattle.std.proofs.lemmas.Result.{err_from_is_err_and}
 use Rattle.screen_tool.specs.Global.{unchanged, needs_repair}
-use Rattle.screen_tool.proofs.Steps.{rules_end, readings_end, rows_answered, obeys_from_test, disobeys_from_test}
+use Rattle.screen_tool.proofs.Steps.{rules_end, readings_end, texts_end, rows_answered, obeys_from_test, disobeys_from_test}
 use Rattle.screen_tool.proofs.global.global.Goals as goal
 
 pub returns-in_err-rules-clause-answer : goal.returns-in_err-rules-clause-answer
@@ -19,12 +19,17 @@ returns-then-not-obeys-clause-answer g c =
     let breaks = disobeys_from_test c.in_ok-rules.rules c.in_ok-table.table c.as_slice.result.now c.obeys.result c.as_slice.ensures.rows c.obeys.ensures.bounds c.if-not-obeys.true in
     (needs_repair, refl, refl, refl, rows_answered g.S.Source.left g.S.Source.faults _ _ _ c.in_ok-rules.rules c.in_ok-table.table needs_repair c.in_ok-rules.ensures c.in_ok-table.ensures refl (inr (breaks, refl)))
 
+pub returns-in_err-reply-clause-answer : goal.returns-in_err-reply-clause-answer
+returns-in_err-reply-clause-answer g c =
+    let p = err_from_is_err_and c.from_residual-in_err-reply.result c.from_residual-in_err-reply.ensures.1 in
+    rw (p.1, p.2) (texts_end g.S.Source.left g.S.Source.faults c.files_are_one.ensures.rules _ _ _ c.in_ok-rules.rules c.in_ok-table.table c.in_ok-rules.ensures c.in_ok-table.ensures)
+
 pub returns-clause-answer : goal.returns-clause-answer
 returns-clause-answer g c =
     let found = c.in_ok-rules.rules in
     let rows = c.in_ok-table.table in
     let obeys = obeys_from_test found rows c.as_slice.result.now c.obeys.result c.as_slice.ensures.rows c.obeys.ensures.bounds c.if-not-obeys.false in (
       unchanged found rows,
-      record { ending = refl; cert = ap Some (sym c.in_ok-cert.ensures.items); out = ap Some (sym c.in_ok-out.ensures) },
+      c.in_ok-reply.ensures.texts,
       rows_answered g.S.Source.left g.S.Source.faults _ _ _ found rows (unchanged found rows) c.in_ok-rules.ensures c.in_ok-table.ensures refl (inl (obeys, refl)),
     )

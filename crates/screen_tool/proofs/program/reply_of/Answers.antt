@@ -1,5 +1,16 @@
+use Rattle.std.proofs.Common.{Option, MatchResult, sym, subst}
+use Rattle.screen_tool.specs.declared.command.Command.{Command}
+use Rattle.screen_tool.specs.Answers.{Answers}
+use Rattle.screen_tool.specs.Performance.{IsAnswerTo}
+use Rattle.screen_tool.specs.Step.{Ends, Replies}
+use Rattle.screen_tool.proofs.AnswerLaws.{of_global}
 use Rattle.screen_tool.proofs.Steps.{usage_ends}
 use Rattle.screen_tool.proofs.program.reply_of.Goals as goal
+
+pub returns-in-Some-Global-clause-answer : goal.returns-in-Some-Global-clause-answer
+returns-in-Some-Global-clause-answer g c =
+    let P : IsAnswerTo → Type 0 = λ A. MatchResult c.global.result (Replies g.S.Source.left g.S.Source.faults A c.args.ins.now c.global.new.ins) (Ends g.S.Source.left g.S.Source.faults A c.args.ins.now c.global.new.ins) in
+    subst (λ (command : Option Command). P (Answers command)) (sym c.in-Some-Global.is) (of_global c.in-Some-Global.field-0 P c.global.ensures.answer)
 
 pub returns-in-None-clause-answer : goal.returns-in-None-clause-answer
 returns-in-None-clause-answer g c = usage_ends g.S.Source.left g.S.Source.faults c.args.command c.args.ins.now c.in-None.is

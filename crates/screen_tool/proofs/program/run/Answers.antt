@@ -1,5 +1,7 @@
 use Rattle.std.proofs.Common.{◌∙◌, Option, subst}
 use Rattle.screen_tool.specs.declared.command.Command.{Command}
+use Rattle.screen_tool.specs.Answers.{Answers}
+use Rattle.screen_tool.specs.Command.{roles_of}
 use Rattle.screen_tool.specs.Ending.{status_of}
 use Rattle.screen_tool.specs.Note.{note_text}
 use Rattle.screen_tool.specs.Performance.{IsDue, Performs}
@@ -12,28 +14,28 @@ returns-clause-performs g c =
     let how = c.ending_of-ending.result in
     let note = noted g.K.Sink.held g.K.Sink.faults (note_text how) c.as_bytes.result.now _ _ c.write_all_of.result
     (c.as_bytes.ensures.value ∙ c.as_str.ensures.value ∙ c.note_of-note.ensures)
-    c.write_all_of.ensures.whole c.write_all_of.ensures.part c.write_all_of.ensures.cause
+    c.write_all_of.ensures.whole c.write_all_of.ensures.part c.write_all_of.ensures.cause c.write_all_of.ensures.unfailed
     in
-    let performed = performs_noted g.S.Source.left g.S.Source.faults g.K.Sink.held g.K.Sink.faults c.command_from.result c.args.ins.now c.ending_of-ending.new.ins c.args.outs.now c.ending_of-ending.new.outs c.write_all_of.new.sink how c.ending_of-ending.ensures.performs in (
+    let performed = performs_noted g.S.Source.left g.S.Source.faults g.K.Sink.held g.K.Sink.faults (Answers c.command_from.result) c.args.ins.now c.ending_of-ending.new.ins c.args.outs.now c.ending_of-ending.new.outs c.write_all_of.new.sink how c.ending_of-ending.ensures.performs in (
       how,
       c.status.ensures,
       rw (← c.ending_of-ending.ensures.note) note,
       subst
-      (λ (command : Option Command). Performs g.S.Source.left g.S.Source.faults g.K.Sink.held g.K.Sink.faults command c.args.ins.now c.ending_of-ending.new.ins c.args.outs.now (record c.ending_of-ending.new.outs { note = c.write_all_of.new.sink }) how)
-      c.command_from.ensures performed,
+          (λ (command : Option Command). Performs g.S.Source.left g.S.Source.faults g.K.Sink.held g.K.Sink.faults (Answers command) c.args.ins.now c.ending_of-ending.new.ins c.args.outs.now (record c.ending_of-ending.new.outs { note = c.write_all_of.new.sink }) how)
+          c.command_from.ensures performed,
     )
 
 pub returns-clause-due : goal.returns-clause-due
 returns-clause-due g c =
-    let is_due = due g.S.Source.left g.S.Source.faults g.K.Sink.held g.K.Sink.faults c.one_ending.ensures c.rests_on_read.ensures c.command_from.result c.args.ins.now c.ending_of-ending.new.ins c.args.outs.now c.ending_of-ending.new.outs c.ending_of-ending.result c.ending_of-ending.ensures.performs in
-    rw c.status.ensures (subst (λ (command : Option Command). IsDue g.S.Source.left command c.args.ins.now (status_of c.ending_of-ending.result)) c.command_from.ensures is_due)
+    let is_due = due g.S.Source.left g.S.Source.faults g.K.Sink.held g.K.Sink.faults c.one_outcome.ensures c.rests_on_read.ensures c.command_from.result c.args.ins.now c.ending_of-ending.new.ins c.args.outs.now c.ending_of-ending.new.outs c.ending_of-ending.result c.ending_of-ending.ensures.performs in
+    rw c.status.ensures (subst (λ (command : Option Command). IsDue g.S.Source.left (roles_of command) (Answers command) c.args.ins.now (status_of c.ending_of-ending.result)) c.command_from.ensures is_due)
 
 pub returns-clause-headline : goal.returns-clause-headline
 returns-clause-headline g c = λ is.
     let how = c.ending_of-ending.result in
-    let performed = performs_noted g.S.Source.left g.S.Source.faults g.K.Sink.held g.K.Sink.faults c.command_from.result c.args.ins.now c.ending_of-ending.new.ins c.args.outs.now c.ending_of-ending.new.outs c.write_all_of.new.sink how c.ending_of-ending.ensures.performs in
+    let performed = performs_noted g.S.Source.left g.S.Source.faults g.K.Sink.held g.K.Sink.faults (Answers c.command_from.result) c.args.ins.now c.ending_of-ending.new.ins c.args.outs.now c.ending_of-ending.new.outs c.write_all_of.new.sink how c.ending_of-ending.ensures.performs in
     let given = subst
-    (λ (command : Option Command). Performs g.S.Source.left g.S.Source.faults g.K.Sink.held g.K.Sink.faults command c.args.ins.now c.ending_of-ending.new.ins c.args.outs.now (record c.ending_of-ending.new.outs { note = c.write_all_of.new.sink }) how)
+    (λ (command : Option Command). Performs g.S.Source.left g.S.Source.faults g.K.Sink.held g.K.Sink.faults (Answers command) c.args.ins.now c.ending_of-ending.new.ins c.args.outs.now (record c.ending_of-ending.new.outs { note = c.write_all_of.new.sink }) how)
     (c.command_from.ensures ∙ is) performed
     in
-    rw c.status.ensures (headline g.S.Source.left g.S.Source.faults g.K.Sink.held g.K.Sink.faults c.files_are_one.ensures.rules c.files_are_one.ensures.readings c.one_ending.ensures c.rests_on_read.ensures c.args.ins.now c.ending_of-ending.new.ins c.args.outs.now (record c.ending_of-ending.new.outs { note = c.write_all_of.new.sink }) how given)
+    rw c.status.ensures (headline g.S.Source.left g.S.Source.faults g.K.Sink.held g.K.Sink.faults c.files_are_one.ensures.rules c.files_are_one.ensures.readings c.one_outcome.ensures c.rests_on_read.ensures c.args.ins.now c.ending_of-ending.new.ins c.args.outs.now (record c.ending_of-ending.new.outs { note = c.write_all_of.new.sink }) how given)
