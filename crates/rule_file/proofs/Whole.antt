@@ -1,6 +1,6 @@
 -- What a whole file is read as, from what its table is read as.
 use Rattle.std.proofs.Common.{◌≡◌, ℕ, ◌≤◌, List, length, Some, None, inr, subst}
-use Rattle.std.specs.Prelude.{Result, Ok, Err}
+use Rattle.std.specs.Prelude.{Result, Err}
 use Rattle.words.specs.Answers.{UnlessMemory}
 use Rattle.toml.specs.Data.{Data, string, integer, float, boolean, datetime, array, table, Members, get_member, as_table}
 use Rattle.rule_file.specs.declared.fault.RuleCause.TheVariants.{MissingKey, WrongKind, Memory}

@@ -1,4 +1,4 @@
-use Rattle.std.proofs.Common.{◌≡◌, Err, ap, ◌∙◌, inl}
+use Rattle.std.proofs.Common.{Err, ap, ◌∙◌, inl}
 use Rattle.rule_file.specs.Fault.{cause_of_key, of_the_file}
 use Rattle.rule_file.proofs.document.formatted_rules.Goals as goal
 

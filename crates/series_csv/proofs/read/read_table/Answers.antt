@@ -1,4 +1,4 @@
-use Rattle.std.proofs.Common.{◌≡◌, Ok, Err, ap, ◌∙◌}
+use Rattle.std.proofs.Common.{Ok, Err, ap, ◌∙◌}
 use Rattle.series_csv.specs.Fault.{of_the_file}
 use Rattle.series_csv.proofs.read.read_table.Goals as goal
 
