@@ -7,8 +7,6 @@ pub mod ForestTurn
 pub mod ForestWalk
 pub mod Ranked
 pub mod Relaxing
-pub mod Rotations
 pub mod Sweeping
-pub mod Totals
 pub mod Writing
 pub mod Turning

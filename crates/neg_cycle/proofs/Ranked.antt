@@ -9,7 +9,7 @@ use Rattle.neg_cycle.specs.declared.forest.Parent.{Parent}
 use Rattle.neg_cycle.specs.Forest.{parent_at, IsRanking}
 use Rattle.neg_cycle.specs.Labels.{IsParentOf, IsWithin, IsLabelling, Fell}
 use Rattle.neg_cycle.proofs.Relaxing.{cost_low}
-use Rattle.neg_cycle.proofs.Totals.{total_low}
+use Rattle.words.proofs.Sums.{total_low}
 
 -- the same label with another ranking
 label_ranked : (arcs : List (Option Arc)) (distances : List ℤ) (ranks fresh : List ℕ) (node : ℕ) (parent : Option Parent) → MatchOption parent (IsWithin 1 (get_or distances node (pos 0))) (IsParentOf arcs distances ranks node) → IfSome parent (λ p. get_or fresh p.tail 0 < get_or fresh node 0) → MatchOption parent (IsWithin 1 (get_or distances node (pos 0))) (IsParentOf arcs distances fresh node)

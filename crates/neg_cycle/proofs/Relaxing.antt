@@ -11,7 +11,7 @@ use Rattle.neg_cycle.specs.Distances.{AreAtMost}
 use Rattle.neg_cycle.specs.Forest.{parent_at}
 use Rattle.neg_cycle.specs.Labels.{IsParentOf, IsWithin, IsLabelling, Lowers, Fell}
 use Rattle.neg_cycle.specs.declared.labels.Labels.{Labels}
-use Rattle.neg_cycle.proofs.Totals.{total_falls}
+use Rattle.words.proofs.Sums.{total_falls}
 
 -- an element that was set, and another one
 set_here : {A : Type 0} (xs : List A) (i j : ℕ) (y d : A) → i < length xs → j ≡ i → get_or (set xs i y) j d ≡ y

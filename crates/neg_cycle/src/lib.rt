@@ -10,10 +10,9 @@ mod forest;
 mod labels;
 mod room;
 mod sweep;
-mod turned;
-
 #[cfg(test)]
 mod tests;
+mod turned;
 
 pub use room::Room;
 pub use sweep::{Settled, settle};

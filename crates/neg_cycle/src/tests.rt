@@ -6,7 +6,8 @@ mod large;
 
 use crate::forest::{Parent, rank_or_cycle};
 use crate::{Room, Settled, Turned, least_by_turning, settle, turned_is_negated};
-use bound_graph::{Arc, ArcList};
+use bound_graph::{Arc, ArcList, ArcTable, Graph};
+use screen_model::{Bound, BoundList, BoundName, End, Place, Places, Side};
 use std::alloc::{AllocError, Global};
 use std::test::Fail;
 
@@ -64,20 +65,21 @@ impl ArcList for Table {
 }
 
 /// What settling from these starts comes to, with the distances and the numbers of a cycle's arcs.
-fn settled(
+fn settled<A: ArcList>(
     alloc: Global,
-    table: &Table,
+    arcs: &A,
     starts: &[i32],
 ) -> Result<(Settled, Vec<i128>, Vec<u32>), AllocError>
-    requires { length starts.now ≡ table.now.nodes }
+    requires { length starts.now ≡ A.node_count arcs.now }
 {
-    let mut room = Room::for_nodes(alloc, table.nodes)?;
+    let nodes = arcs.nodes();
+    let mut room = Room::for_nodes(alloc, nodes)?;
     for (node, start) in starts.iter().enumerate() {
         room.start(node as u32, i64::from(*start));
     }
-    let settled = settle(table, &mut room);
+    let settled = settle(arcs, &mut room);
     let mut distances = Vec::new(alloc);
-    for node in 0..table.nodes {
+    for node in 0..nodes {
         distances.push(room.distance(node))?;
     }
     let mut cycle = Vec::new(alloc);
@@ -138,6 +140,68 @@ fn a_cycle_with_the_sum_0_and_an_arc_that_is_not_there_are_obeyed(
     let (outcome, distances, _) = settled(rt.alloc(), &table, &[0, 10])?;
     assert_eq!(rt; outcome, Settled::Greatest);
     assert_eq!(rt; distances.as_slice(), [0, 1].as_slice());
+    Ok(())
+}
+
+/// A reading that is at least 3 and at most 5.
+fn range(rt: &impl AllocGlobal) -> Result<Graph, AllocError>
+    ensures { IfOk result (λ graph. graph.nodes ≡ 2) }
+{
+    let place = Place { row: 1, col: 2 };
+    let name = BoundName {
+        rule: 1,
+        from_row: 1,
+        to_row: 1,
+        col: 2,
+        side: Side::Up,
+    };
+    let mut places = Places::new(rt.alloc());
+    places.push(place)?;
+    let mut bounds = BoundList::new(rt.alloc());
+    bounds.push(Bound {
+        name,
+        first: End::Zero,
+        second: End::At(place),
+        limit: 5,
+    })?;
+    bounds.push(Bound {
+        name: BoundName {
+            side: Side::Down,
+            ..name
+        },
+        first: End::At(place),
+        second: End::Zero,
+        limit: -3,
+    })?;
+    Graph::from_bounds(rt.alloc(), &places, &bounds)
+}
+
+#[test]
+fn graphs_settle_and_give_the_least_turned_round(rt: HostRuntime) -> Result<(), Fail> {
+    let graph = range(&rt)?;
+    let (outcome, distances, _) = settled(rt.alloc(), &graph, &[0, 9])?;
+    assert_eq!(rt; outcome, Settled::Greatest);
+    assert_eq!(rt; distances.as_slice(), [0, 5].as_slice());
+    // The least are the negated distances of the arcs turned round, so the reading is 3.
+    let (outcome, distances, _) = settled(rt.alloc(), &Turned { arcs: &graph }, &[0, 0])?;
+    assert_eq!(rt; outcome, Settled::Greatest);
+    assert_eq!(rt; distances.as_slice(), [0, -3].as_slice());
+    let mut arcs = ArcTable::new(rt.alloc());
+    arcs.push(Arc {
+        tail: 0,
+        head: 1,
+        cost: 5,
+    })?;
+    arcs.push(Arc {
+        tail: 1,
+        head: 0,
+        cost: -6,
+    })?;
+    let graph = Graph::from_arcs(rt.alloc(), 2, arcs)?;
+    let (outcome, _, cycle) = settled(rt.alloc(), &graph, &[0, 0])?;
+    assert_eq!(rt; (outcome, cycle.len()), (Settled::Cycle, 2));
+    turned_is_negated();
+    least_by_turning();
     Ok(())
 }
 

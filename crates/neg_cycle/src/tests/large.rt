@@ -1,5 +1,5 @@
 //! Graphs of many nodes, and how often their arcs are looked at.
-ghost use Rattle.std.specs.Prelude.{◌≡◌, ◌*◌, ◌^◌, ◌≤◌, length, All, IfOk, unsigned_abs};
+ghost use Rattle.std.specs.Prelude.{◌≡◌, length, IfOk};
 
 use super::Table;
 use crate::{Room, Settled, settle};
@@ -49,24 +49,6 @@ fn chain(alloc: Global, up: i32, down: i32) -> Result<Vec<(u32, u32, i32)>, Allo
     Ok(rows)
 }
 
-/// Starts one node at 0 and all others far away.
-fn start_far(room: &mut Room, nodes: u32, near: u32)
-    requires nodes { length room.old.distances ≡ nodes }
-    requires small { All (λ start. unsigned_abs start ≤ 4 * 10 ^ 15) room.old.distances }
-    ensures nodes { length room.new.distances ≡ nodes }
-    ensures small { All (λ start. unsigned_abs start ≤ 4 * 10 ^ 15) room.new.distances }
-{
-    for node in 0..nodes {
-        room.start(node, start_of(node, near));
-    }
-}
-
-fn start_of(node: u32, near: u32) -> i64
-    ensures { unsigned_abs result ≤ 4 * 10 ^ 15 }
-{
-    if node == near { 0 } else { FAR }
-}
-
 /// Settles a graph of these arcs in which one node starts at 0 and all others far away, in at most three sweeps.
 fn settled_from(
     rt: &impl Abort,
@@ -80,7 +62,8 @@ fn settled_from(
     assert!(rt; rows.len() < 1_000_000 && near < nodes);
     let table = Table::of(alloc, nodes, rows)?;
     let mut room = Room::for_nodes(alloc, nodes)?;
-    start_far(&mut room, nodes, near);
+    room.start_all(FAR);
+    room.start(near, 0);
     let counted = Counted {
         table: &table,
         looked: Cell::new(0),

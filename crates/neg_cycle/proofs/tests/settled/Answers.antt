@@ -4,7 +4,7 @@ use Rattle.std.proofs.lemmas.List.Elements.{All-same, All-set}
 use Rattle.neg_cycle.proofs.tests.settled.Goals as goal
 
 pub loop-node-preserved : goal.loop-node-preserved
-loop-node-preserved c =
+loop-node-preserved g c =
     let was = c.loop-node.room.distances in
     let start : ℤ = to_z w64 (of_z w64 c.from.result) in
     let size : unsigned_abs start ≤ 4 * 10 ^ 15 = search rules in

@@ -3,7 +3,7 @@ use Rattle.std.specs.List.{All}
 use Rattle.neg_cycle.proofs.tests.settled.Given as goal
 
 abbrev pub invariant-loop-node : goal.invariant-loop-node
-invariant-loop-node l = record {
-  nodes : length l.room.distances ≡ l.table.nodes;
+invariant-loop-node g l = record {
+  nodes : length l.room.distances ≡ l.nodes;
   small : All (λ start. unsigned_abs start ≤ 4 * 10 ^ 15) l.room.distances;
 }

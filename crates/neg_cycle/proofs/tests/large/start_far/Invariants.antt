@@ -1,9 +1,0 @@
-use Rattle.std.proofs.Common.{◌≡◌, ◌≤◌, ◌*◌, ◌^◌, length, unsigned_abs}
-use Rattle.std.specs.List.{All}
-use Rattle.neg_cycle.proofs.tests.large.start_far.Given as goal
-
-abbrev pub invariant-loop-node : goal.invariant-loop-node
-invariant-loop-node l = record {
-  nodes : length l.room.distances ≡ l.nodes;
-  small : All (λ start. unsigned_abs start ≤ 4 * 10 ^ 15) l.room.distances;
-}
