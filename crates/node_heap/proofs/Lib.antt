@@ -1,0 +1,4 @@
+pub mod Layouts
+pub mod Orders
+pub mod Steps
+pub mod Trees
