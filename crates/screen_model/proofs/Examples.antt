@@ -1,5 +1,5 @@
 -- Worked examples of series, flows and blocked cycles. All readings stand in column 2, one second apart, from row 1 on.
-use Rattle.std.proofs.Common.{◌≡◌, ℕ, ◌^◌, ℤ, pos, neg_ℤ, ◌≤ℤ◌, List, [], ◌∷◌, ◌++◌, map, replicate, refl, arith, rules}
+use Rattle.std.proofs.Common.{◌≡◌, ℕ, ◌^◌, ◌≤◌, ℤ, pos, neg_ℤ, ◌≤ℤ◌, List, [], ◌∷◌, ◌++◌, map, replicate, refl, arith, rules}
 use Rattle.std.proofs.lemmas.Int.{ints}
 use Rattle.screen_model.specs.declared.place.Place.{Place}
 use Rattle.screen_model.specs.declared.place.End.{End}
@@ -9,12 +9,13 @@ use Rattle.screen_model.specs.declared.bound.Side.TheVariants.{Up, Down}
 use Rattle.screen_model.specs.declared.bound.BoundName.{BoundName}
 use Rattle.screen_model.specs.declared.bound.FlowItem.{FlowItem}
 use Rattle.words.specs.Lists.{IsPart, kept, left_out, none, total}
+use Rattle.words.proofs.Lists.{all_at}
 use Rattle.screen_model.specs.Obeys.{Priced, Obeys, with_prices}
 use Rattle.screen_model.specs.Cost.{Problem, change, paid, cost}
 use Rattle.screen_model.specs.Flow.{IsAdmissible, pull, dual_value}
-use Rattle.screen_model.specs.Names.{IsFlowOver, amounts_of, items_of, bounds_named}
-use Rattle.screen_model.specs.Parts.{IsSpread, no_bounds, same_amount, no_amount}
-use Rattle.screen_model.specs.Best.{IsBest, IsBlocked}
+use Rattle.screen_model.specs.Names.{names_of, IsFlowOver, amounts_of, items_of, bounds_named}
+use Rattle.screen_model.specs.Parts.{IsExtended, no_bounds, same_amount, no_amount}
+use Rattle.screen_model.specs.Best.{IsBest, IsBestByItems, IsBlocked, IsBlockedByNames}
 
 -- the place of the reading in a row
 abbrev reading : ℕ → Place
@@ -117,6 +118,9 @@ flattened-best = record {
   equal = refl;
 }
 
+flattened-best_by_items : IsBestByItems spike flattened spike_items
+flattened-best_by_items = record { over = spike_items-over; best = flattened-best }
+
 -- 1 on the limit of the rise from row 1 to row 3 shows it as well
 flattened-best_too : IsBest spike flattened (amounts_of (record { name = named 1 1 3 Up; amount = pos 1 } ∷ []) spike.bounds)
 flattened-best_too = record {
@@ -127,12 +131,12 @@ flattened-best_too = record {
   equal = refl;
 }
 
--- Two readings that may rise and fall by at most 1 a second; breaking that costs 1 for each unit.
+-- Two readings of weight 5 that may rise and fall by at most 1 a second; breaking that costs 1 for each unit.
 abbrev jump : Problem
 jump = record {
   places = reading 1 ∷ reading 2 ∷ [];
   values = pos 0 ∷ pos 100 ∷ [];
-  weights = 1 ∷ 1 ∷ [];
+  weights = 5 ∷ 5 ∷ [];
   bounds = range_of 1 ++ range_of 2 ++ speed 1 1 1 2;
 }
 
@@ -168,19 +172,19 @@ jump-best = record {
   equal = refl;
 }
 
--- 2 is more than the price
+-- 2 is more than the price, and would be no more than the weights
 jump_flow-too_great : IsAdmissible jump (pos 0 ∷ pos 0 ∷ pos 0 ∷ pos 0 ∷ pos 2 ∷ pos 0 ∷ []) → ⊥
 jump_flow-too_great admissible =
     let at_price : pos 2 ≤ℤ pos 1 = admissible.amounts.1.1.1.1.0.1 (omega arith) in
     omega (arith, ints)
 
 -- no flow is admissible where a reading has no weight
-jump_flow-no_weight : IsAdmissible (record jump { weights = 1 ∷ [] }) jump_flow → ⊥
+jump_flow-no_weight : IsAdmissible (record jump { weights = 5 ∷ [] }) jump_flow → ⊥
 jump_flow-no_weight admissible = admissible.pulls.1
 
--- the flow of the two limits of the change alone, spread over all bounds
-jump_flow-spread : IsSpread (speed 1 1 1 2) (pos 1 ∷ pos 0 ∷ []) jump.bounds jump_flow
-jump_flow-spread = no_amount (no_amount (no_amount (no_amount (same_amount (same_amount no_bounds)))))
+-- the flow of the two limits of the change alone, extended over all bounds
+jump_flow-extended : IsExtended (speed 1 1 1 2) (pos 1 ∷ pos 0 ∷ []) jump.bounds jump_flow
+jump_flow-extended = no_amount (no_amount (no_amount (no_amount (same_amount (same_amount no_bounds)))))
 
 jump-part : IsPart (speed 1 1 1 2) jump.bounds
 jump-part = left_out (left_out (left_out (left_out (kept (kept none)))))
@@ -218,7 +222,7 @@ trusted value row = at_most 2 value row ∷ at_least 2 value row ∷ []
 
 -- the same two readings, both trusted, and no price
 abbrev trusted_jump : List Priced
-trusted_jump = range_of 1 ++ range_of 2 ++ trusted (pos 0) 1 ++ trusted (pos 100) 2 ++ speed 0 1 1 2
+trusted_jump = range_of 1 ++ range_of 2 ++ speed 0 1 1 2 ++ trusted (pos 0) 1 ++ trusted (pos 100) 2
 
 -- from Zero up to reading 1, up to reading 2, and down to Zero again
 abbrev steps : List BoundName
@@ -233,9 +237,27 @@ steps-sum = refl
 steps-blocked : IsBlocked trusted_jump (bounds_named steps trusted_jump)
 steps-blocked = record {
   some = omega arith;
-  members = ((4, omega arith, refl), ((8, omega arith, refl), ((7, omega arith, refl), tt)));
+  members = ((6, omega arith, refl), ((4, omega arith, refl), ((9, omega arith, refl), tt)));
   unpriced = (refl, (refl, (refl, tt)));
   closed = refl;
   simple = search rules;
   negative = omega (arith, ints);
 }
+
+steps-blocked_by_names : IsBlockedByNames trusted_jump steps
+steps-blocked_by_names = record {
+  named = ((6, omega arith, refl), ((4, omega arith, refl), ((9, omega arith, refl), tt)));
+  blocked = steps-blocked;
+}
+
+-- the same steps, and between them a name that no bound bears
+abbrev stray_steps : List BoundName
+stray_steps = named 2 1 1 Up ∷ named 3 1 2 Up ∷ named 1 1 2 Up ∷ named 2 2 2 Down ∷ []
+
+stray_steps-bounds : bounds_named stray_steps trusted_jump ≡ bounds_named steps trusted_jump
+stray_steps-bounds = refl
+
+stray_steps-refused : IsBlockedByNames trusted_jump stray_steps → ⊥
+stray_steps-refused blocked =
+    let known = all_at (λ name. name.rule ≤ 2) (names_of trusted_jump) (named 3 1 2 Up) (search rules) blocked.named.1.0 in
+    omega (arith, known)

@@ -1,4 +1,4 @@
--- Flows that are told by items: over a part of the bounds, what the items tell, and what they count for.
+-- Flows that are told by items: over a part of the bounds, what the items tell, and what they add up to.
 use Rattle.std.proofs.Common.{◌≡◌, ◌≢◌, zero, suc, Bool, true, false, cond, if◌then◌else◌, ◌⊎◌, inl, inr, ℤ, pos, negsuc, ◌+ℤ◌, ◌*ℤ◌, ◌≤ℤ◌, List, [], ◌∷◌, ◌++◌, length, map, refl, sym, ap, ◌∙◌, subst, arith}
 use Rattle.std.specs.Prelude.{Contains}
 use Rattle.std.specs.List.{AllByRecursion, AllZip}
@@ -12,8 +12,8 @@ use Rattle.words.proofs.Products.{sum_mul}
 use Rattle.words.proofs.Lists.{all_weaker, all_zip_long, all_at, all_from_map, contains_cases, contains_none}
 use Rattle.words.proofs.Parts.{part_none, part_all, part_distinct, part_contains}
 use Rattle.screen_model.specs.Obeys.{Priced}
-use Rattle.screen_model.specs.Names.{is_same_name, names_of, bounds_named, amount_on, amounts_of, with_item, items_of, ItemsTellFlows, ItemsCount}
-use Rattle.screen_model.specs.Parts.{IsSpread, no_bounds, same_amount, no_amount, ItemsSpread}
+use Rattle.screen_model.specs.Names.{is_same_name, names_of, bounds_named, amount_on, amounts_of, with_item, items_of, ItemsTellFlows, SumsOverItems}
+use Rattle.screen_model.specs.Parts.{IsExtended, no_bounds, same_amount, no_amount, ItemsOverParts}
 use Rattle.screen_model.proofs.Names.{same_name, other_name, bearing, bearing_passes, bearing_skips, bearing_none, name_of, not_left_out, still_named}
 
 -- ---- items over a part
@@ -45,23 +45,23 @@ not_named : (first : Priced) (part bounds : List Priced) → IsPart part bounds 
 not_named first part bounds is_part distinct item (inl others) = λ e. others.0 (sym e)
 not_named first part bounds is_part distinct item (inr h) = not_left_out item.name first is_part distinct h
 
-spread_of : (items : List FlowItem) {part bounds : List Priced} → IsPart part bounds → Distinct (names_of bounds) → AllByRecursion (IsSettled part bounds) items → IsSpread part (amounts_of items part) bounds (amounts_of items bounds)
-spread_of items none distinct settled = no_bounds
-spread_of items (kept {x = first} {part = part} {whole = bounds} rest) distinct settled =
-    same_amount (spread_of items rest distinct.1 (all_weaker (IsSettled (first ∷ part) (first ∷ bounds)) (IsSettled part bounds) (settled_kept first part bounds distinct.0) items settled))
-spread_of items (left_out {x = first} {part = part} {whole = bounds} rest) distinct settled =
+extended_of : (items : List FlowItem) {part bounds : List Priced} → IsPart part bounds → Distinct (names_of bounds) → AllByRecursion (IsSettled part bounds) items → IsExtended part (amounts_of items part) bounds (amounts_of items bounds)
+extended_of items none distinct settled = no_bounds
+extended_of items (kept {x = first} {part = part} {whole = bounds} rest) distinct settled =
+    same_amount (extended_of items rest distinct.1 (all_weaker (IsSettled (first ∷ part) (first ∷ bounds)) (IsSettled part bounds) (settled_kept first part bounds distinct.0) items settled))
+extended_of items (left_out {x = first} {part = part} {whole = bounds} rest) distinct settled =
     let idle : pos 0 ≡ amount_on (name_of first) items = sym (amount_none (name_of first) items (all_weaker (IsSettled part (first ∷ bounds)) (λ item. name_of first ≢ item.name) (not_named first part bounds rest distinct) items settled)) in
-    let others = spread_of items rest distinct.1 (all_weaker (IsSettled part (first ∷ bounds)) (IsSettled part bounds) (settled_left_out first part bounds) items settled) in
-    subst (λ amount. IsSpread part (amounts_of items part) (first ∷ bounds) (amount ∷ amounts_of items bounds)) idle (no_amount others)
+    let others = extended_of items rest distinct.1 (all_weaker (IsSettled part (first ∷ bounds)) (IsSettled part bounds) (settled_left_out first part bounds) items settled) in
+    subst (λ amount. IsExtended part (amounts_of items part) (first ∷ bounds) (amount ∷ amounts_of items bounds)) idle (no_amount others)
 
-pub spread : ItemsSpread
-spread part bounds items is_part distinct over = (
+pub over_parts : ItemsOverParts
+over_parts part bounds items is_part distinct over = (
   record {
     named = still_named (map item_name items) is_part over.named;
     distinct = over.distinct;
     some = over.some;
   },
-  spread_of items is_part distinct (all_weaker (λ item. Contains (names_of part) item.name) (IsSettled part bounds) (λ item h. inr h) items (all_from_map (Contains (names_of part)) item_name items over.named)),
+  extended_of items is_part distinct (all_weaker (λ item. Contains (names_of part) item.name) (IsSettled part bounds) (λ item h. inr h) items (all_from_map (Contains (names_of part)) item_name items over.named)),
 )
 
 -- ---- the items of a flow
@@ -135,7 +135,7 @@ tell bounds flow distinct low = (
   items_tell bounds flow (all_zip_long (λ priced amount. pos 0 ≤ℤ amount) bounds flow low) distinct,
 )
 
--- ---- what items count for
+-- ---- sums over items
 
 -- an amount on the bounds of a name, and 0 on the others
 abbrev on_name : BoundName → ℤ → List Priced → List ℤ
@@ -194,11 +194,11 @@ no_items : (f : Priced → ℤ) (bounds : List Priced) → inner_product (amount
 no_items f [] = refl
 no_items f (priced ∷ bounds) = omega (arith, ints, zero-*ℤ (f priced), no_items f bounds)
 
-pub count : ItemsCount
-count bounds [] f distinct named = no_items f bounds
-count bounds (item ∷ items) f distinct named =
+pub sums : SumsOverItems
+sums bounds [] f distinct named = no_items f bounds
+sums bounds (item ∷ items) f distinct named =
     let one = one_bound f item.name item.amount bounds distinct named.0 in
     let rest = bounds_named (map item_name items) bounds in
     let counted : inner_product (item.amount ∷ map (λ item. item.amount) items) (map f (bearing name_of item.name bounds ++ rest)) ≡ (item.amount *ℤ f one.bound) +ℤ inner_product (map (λ item. item.amount) items) (map f rest)
     = ap (λ ps. inner_product (item.amount ∷ map (λ item. item.amount) items) (map f (ps ++ rest))) one.alone in
-    omega (arith, ints, one_item_more f item items bounds, one.counts, count bounds items f distinct named.1, counted)
+    omega (arith, ints, one_item_more f item items bounds, one.counts, sums bounds items f distinct named.1, counted)

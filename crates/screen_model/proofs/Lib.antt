@@ -4,6 +4,6 @@ pub mod Examples
 pub mod Gains
 pub mod Items
 pub mod Names
+pub mod Parts
 pub mod Places
 pub mod Pulls
-pub mod Spreads

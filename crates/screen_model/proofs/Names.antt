@@ -7,11 +7,11 @@ use Rattle.screen_model.specs.declared.bound.BoundName.{BoundName}
 use Rattle.screen_model.specs.declared.bound.Side.{Side}
 use Rattle.screen_model.specs.declared.bound.Side.TheVariants.{Up, Down}
 use Rattle.words.specs.Lists.{Distinct, IsPart, none, kept, left_out}
-use Rattle.words.proofs.Lists.{all_weaker, all_at, all_from_map, contains_cases, contains_none, contains_map}
+use Rattle.words.proofs.Lists.{all_weaker, all_at, all_map, all_from_map, contains_cases, contains_none, contains_map}
 use Rattle.words.proofs.Parts.{part_map, part_all, part_contains}
 use Rattle.screen_model.specs.Obeys.{Priced}
-use Rattle.screen_model.specs.Names.{is_same_side, is_same_name, names_of, AreNamesIn, bounds_named}
-use Rattle.screen_model.specs.Parts.{NamesStay}
+use Rattle.screen_model.specs.Names.{is_same_side, is_same_name, names_of, AreNamesIn, bounds_named, NamesTellBounds}
+use Rattle.screen_model.specs.Parts.{NamesOverParts}
 
 -- ---- names
 
@@ -81,33 +81,45 @@ pub bound_named : (bounds : List Priced) (priced : Priced) → Distinct (names_o
 bound_named [] priced distinct h = absurd (contains_none priced h)
 bound_named (first ∷ bounds) priced distinct h = found priced first bounds distinct (contains_cases first bounds priced h) (bound_named bounds priced distinct.1)
 
+named_are : (bounds members : List Priced) → Distinct (names_of bounds) → AllByRecursion (Contains bounds) members → bounds_named (names_of members) bounds ≡ members
+named_are bounds [] distinct all = refl
+named_are bounds (priced ∷ members) distinct all =
+    ap (λ ps. ps ++ bounds_named (names_of members) bounds) (bound_named bounds priced distinct all.0)
+    ∙ ap (λ ps. priced ∷ ps) (named_are bounds members distinct all.1)
+
+pub tell : NamesTellBounds
+tell bounds members distinct all = (
+  all_map (Contains (names_of bounds)) name_of members (all_weaker (Contains bounds) (λ priced. Contains (names_of bounds) (name_of priced)) (contains_map name_of bounds) members all),
+  named_are bounds members distinct all,
+)
+
 -- ---- names of bounds of a part
 
-kept_stays : (name : BoundName) (first : Priced) (part bounds : List Priced) → IsPart part bounds → Distinct (names_of (first ∷ bounds)) → (name_of first ≡ name) ⊎ Contains (names_of part) name
+same_bearing_kept : (name : BoundName) (first : Priced) (part bounds : List Priced) → IsPart part bounds → Distinct (names_of (first ∷ bounds)) → (name_of first ≡ name) ⊎ Contains (names_of part) name
     → (Contains (names_of part) name → bearing name_of name bounds ≡ bearing name_of name part) → bearing name_of name (first ∷ bounds) ≡ bearing name_of name (first ∷ part)
-kept_stays name first part bounds is_part distinct (inl e) rest =
+same_bearing_kept name first part bounds is_part distinct (inl e) rest =
     let others : AllByRecursion (λ (other : Priced). name ≢ name_of other) bounds = subst (λ n. AllByRecursion (λ (other : Priced). n ≢ name_of other) bounds) e (all_from_map (λ name. name_of first ≢ name) name_of bounds distinct.0) in
     let same : bearing name_of name bounds ≡ bearing name_of name part = bearing_none name_of name bounds others ∙ sym (bearing_none name_of name part (part_all (λ (other : Priced). name ≢ name_of other) is_part others)) in
     ap (λ ps. cond (is_same_name name (name_of first)) (first ∷ ps) ps) same
-kept_stays name first part bounds is_part distinct (inr later) rest = ap (λ ps. cond (is_same_name name (name_of first)) (first ∷ ps) ps) (rest later)
+same_bearing_kept name first part bounds is_part distinct (inr later) rest = ap (λ ps. cond (is_same_name name (name_of first)) (first ∷ ps) ps) (rest later)
 
 -- a bound that is left out does not bear the name of one in the part
 pub not_left_out : (name : BoundName) (first : Priced) {part bounds : List Priced} → IsPart part bounds → Distinct (names_of (first ∷ bounds)) → Contains (names_of part) name → name_of first ≢ name
 not_left_out name first {bounds = bounds} is_part distinct h = all_at (λ other. name_of first ≢ other) (names_of bounds) name distinct.0 (part_contains (part_map name_of is_part) name h)
 
-name_stays : (name : BoundName) {part bounds : List Priced} → IsPart part bounds → Distinct (names_of bounds) → Contains (names_of part) name → bearing name_of name bounds ≡ bearing name_of name part
-name_stays name none distinct h = refl
-name_stays name (kept {x = first} {part = part} {whole = bounds} rest) distinct h = kept_stays name first part bounds rest distinct (contains_cases (name_of first) (names_of part) name h) (name_stays name rest distinct.1)
-name_stays name (left_out {x = first} {whole = bounds} rest) distinct h = bearing_skips name_of name first bounds (λ e. not_left_out name first rest distinct h (sym e)) ∙ name_stays name rest distinct.1 h
+same_bearing : (name : BoundName) {part bounds : List Priced} → IsPart part bounds → Distinct (names_of bounds) → Contains (names_of part) name → bearing name_of name bounds ≡ bearing name_of name part
+same_bearing name none distinct h = refl
+same_bearing name (kept {x = first} {part = part} {whole = bounds} rest) distinct h = same_bearing_kept name first part bounds rest distinct (contains_cases (name_of first) (names_of part) name h) (same_bearing name rest distinct.1)
+same_bearing name (left_out {x = first} {whole = bounds} rest) distinct h = bearing_skips name_of name first bounds (λ e. not_left_out name first rest distinct h (sym e)) ∙ same_bearing name rest distinct.1 h
 
-names_stay : (names : List BoundName) {part bounds : List Priced} → IsPart part bounds → Distinct (names_of bounds) → AreNamesIn part names → bounds_named names bounds ≡ bounds_named names part
-names_stay [] is_part distinct named = refl
-names_stay (name ∷ names) {part = part} {bounds = bounds} is_part distinct named =
-    ap (λ ps. ps ++ bounds_named names bounds) (name_stays name is_part distinct named.0)
-    ∙ ap (λ ps. bearing name_of name part ++ ps) (names_stay names is_part distinct named.1)
+same_named : (names : List BoundName) {part bounds : List Priced} → IsPart part bounds → Distinct (names_of bounds) → AreNamesIn part names → bounds_named names bounds ≡ bounds_named names part
+same_named [] is_part distinct named = refl
+same_named (name ∷ names) {part = part} {bounds = bounds} is_part distinct named =
+    ap (λ ps. ps ++ bounds_named names bounds) (same_bearing name is_part distinct named.0)
+    ∙ ap (λ ps. bearing name_of name part ++ ps) (same_named names is_part distinct named.1)
 
 pub still_named : (names : List BoundName) {part bounds : List Priced} → IsPart part bounds → AreNamesIn part names → AreNamesIn bounds names
 still_named names {part = part} {bounds = bounds} is_part named = all_weaker (Contains (names_of part)) (Contains (names_of bounds)) (part_contains (part_map name_of is_part)) names named
 
-pub stay : NamesStay
-stay part bounds names is_part distinct named = (still_named names is_part named, names_stay names is_part distinct named)
+pub over_parts : NamesOverParts
+over_parts part bounds names is_part distinct named = (still_named names is_part named, same_named names is_part distinct named)

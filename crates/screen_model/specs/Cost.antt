@@ -11,7 +11,8 @@ pub record Problem : Type 0 where
   pub weights : List ℕ
   pub bounds : List Priced
 
--- No two readings share a place, and each has a value and a weight.
+-- No two readings share a place, and each has a value and a weight. An end of a bound may be a place where no reading is:
+-- it counts as 0, as Zero does, and all laws hold so.
 pub record IsProblem (problem : Problem) : Type 0 where
   pub distinct : Distinct problem.places
   pub valued : length problem.values ≡ length problem.places

@@ -35,8 +35,8 @@ pub record IsAdmissible (problem : Problem) (flow : List ℤ) : Type 0 where
   pub amounts : AllZip CanCarry problem.bounds flow
   pub pulls : AllZip (λ p weight. unsigned_abs (pull problem.bounds flow p) ≤ weight) problem.places problem.weights
 
--- What a flow is worth as a bound on costs: each amount counts against the limit that it flows on, and each pull
--- against the value that was read.
+-- What every series that obeys costs at least, by an admissible flow: each amount counts against the limit of its
+-- bound, and each pull against the value that was read.
 abbrev pub dual_value : Problem → List ℤ → ℤ
 dual_value problem flow =
     neg_ℤ (inner_product flow (map (λ priced. priced.bound.limit) problem.bounds))

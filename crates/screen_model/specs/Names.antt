@@ -31,6 +31,11 @@ abbrev pub bounds_named : List BoundName → List Priced → List Priced
 bounds_named [] bounds = []
 bounds_named (name ∷ names) bounds = filter (λ priced. is_same_name name priced.bound.name) bounds ++ bounds_named names bounds
 
+-- The names of members of a list of bounds stand for these members again, in their order.
+abbrev pub NamesTellBounds : Type 0
+NamesTellBounds = (bounds members : List Priced) → Distinct (names_of bounds) → AllByRecursion (Contains bounds) members
+    → AreNamesIn bounds (names_of members) × (bounds_named (names_of members) bounds ≡ members)
+
 -- what flows on the bound of a name: the amount of its item, or of all its items together; 0 where it has none
 abbrev pub amount_on : BoundName → List FlowItem → ℤ
 amount_on name items = total (map (λ item. item.amount) (filter (λ item. is_same_name name item.name) items))
@@ -61,10 +66,9 @@ abbrev pub ItemsTellFlows : Type 0
 ItemsTellFlows = (bounds : List Priced) (flow : List ℤ) → Distinct (names_of bounds) → AllZip (λ priced amount. pos 0 ≤ℤ amount) bounds flow
     → IsFlowOver bounds (items_of bounds flow) × (amounts_of (items_of bounds flow) bounds ≡ flow)
 
--- Whatever an amount on a bound counts for, the items count, each on the bound of its name, for as much as the flow
--- that they tell.
-abbrev pub ItemsCount : Type 0
-ItemsCount = (bounds : List Priced) (items : List FlowItem) (worth : Priced → ℤ) → Distinct (names_of bounds)
+-- A sum over items, each at the bound of its name, is the same sum over the flow that they tell.
+abbrev pub SumsOverItems : Type 0
+SumsOverItems = (bounds : List Priced) (items : List FlowItem) (worth : Priced → ℤ) → Distinct (names_of bounds)
     → AreNamesIn bounds (map (λ item. item.name) items)
     → inner_product (amounts_of items bounds) (map worth bounds)
     ≡ inner_product (map (λ item. item.amount) items) (map worth (bounds_named (map (λ item. item.name) items) bounds))

@@ -9,7 +9,8 @@ pub enum Side {
     Down,
 }
 
-/// What tells one bound of a table from every other.
+/// By what a bound is told: its rule, its rows, its column and its side. Where a clause needs that
+/// no two bounds of a list share a name, it says so.
 #[derive(Clone, Copy, Debug, PartialEq, Eq)]
 pub struct BoundName {
     /// The number of the rule that makes the bound; 0 is the range that holds of every reading.
@@ -42,6 +43,6 @@ pub struct Bound {
 pub struct FlowItem {
     /// The bound.
     pub name: BoundName,
-    /// How much flows, at least 1 in an admissible flow.
+    /// How much flows, at least 1 in a list of items that is a flow.
     pub amount: i64,
 }

@@ -1,8 +1,8 @@
 //! Laws of repair by bounds: the duality of linear programs, for series of whole numbers, and what holds of a part of a
 //! list of bounds and of the whole list.
 ghost use Rattle.screen_model.specs.Best.{WeakDuality, BestCostsLeast, BlockedForbids};
-ghost use Rattle.screen_model.specs.Names.{ItemsTellFlows, ItemsCount};
-ghost use Rattle.screen_model.specs.Parts.{PartFlowsCount, PartCyclesBlock, ItemsSpread, NamesStay};
+ghost use Rattle.screen_model.specs.Names.{ItemsTellFlows, SumsOverItems, NamesTellBounds};
+ghost use Rattle.screen_model.specs.Parts.{FlowsExtend, FlowsOverParts, CyclesOverParts, ItemsOverParts, NamesOverParts};
 
 /// Weak duality: a series that obeys costs at least the dual value of every admissible flow.
 pub fn weak_duality()
@@ -19,14 +19,19 @@ pub fn blocked_forbids()
     ensures { BlockedForbids }
 {}
 
+/// Each flow over a part of the bounds is, with 0 on the bounds that are left out, a flow over all of them.
+pub fn flows_extend()
+    ensures { FlowsExtend }
+{}
+
 /// A flow that is admissible over a part of the bounds is so over all of them, and has the same dual value.
-pub fn part_flows_count()
-    ensures { PartFlowsCount }
+pub fn flows_over_parts()
+    ensures { FlowsOverParts }
 {}
 
 /// A cycle that is blocked among a part of the bounds is blocked among all of them.
-pub fn part_cycles_block()
-    ensures { PartCyclesBlock }
+pub fn cycles_over_parts()
+    ensures { CyclesOverParts }
 {}
 
 /// Where no two bounds share a name, the items of a flow tell that flow.
@@ -34,17 +39,22 @@ pub fn items_tell_flows()
     ensures { ItemsTellFlows }
 {}
 
-/// Where no two bounds share a name, items count on the bounds of their names for as much as the flow that they tell.
-pub fn items_count()
-    ensures { ItemsCount }
+/// Where no two bounds share a name, a sum over items, each at the bound of its name, is the same sum over their flow.
+pub fn sums_over_items()
+    ensures { SumsOverItems }
+{}
+
+/// Where no two bounds share a name, the names of some of them tell these bounds.
+pub fn names_tell_bounds()
+    ensures { NamesTellBounds }
 {}
 
 /// Where no two bounds share a name, items that tell a flow over a part of the bounds tell the same one over all of them.
-pub fn items_spread()
-    ensures { ItemsSpread }
+pub fn items_over_parts()
+    ensures { ItemsOverParts }
 {}
 
 /// Where no two bounds share a name, names of bounds of a part are names of the same bounds among all of them.
-pub fn names_stay()
-    ensures { NamesStay }
+pub fn names_over_parts()
+    ensures { NamesOverParts }
 {}

@@ -14,8 +14,9 @@ mod tests;
 
 pub use bound::{Bound, BoundName, FlowItem, Side};
 pub use laws::{
-    best_costs_least, blocked_forbids, items_count, items_spread, items_tell_flows, names_stay,
-    part_cycles_block, part_flows_count, weak_duality,
+    best_costs_least, blocked_forbids, cycles_over_parts, flows_extend, flows_over_parts,
+    items_over_parts, items_tell_flows, names_over_parts, names_tell_bounds, sums_over_items,
+    weak_duality,
 };
 pub use place::{End, Place};
 use sequence::Sequence;

@@ -1,7 +1,8 @@
 use crate::{
     Bound, BoundList, BoundName, End, FlowItem, FlowList, NameList, Place, Places, Series, Side,
-    best_costs_least, blocked_forbids, items_count, items_spread, items_tell_flows, names_stay,
-    part_cycles_block, part_flows_count, weak_duality,
+    best_costs_least, blocked_forbids, cycles_over_parts, flows_extend, flows_over_parts,
+    items_over_parts, items_tell_flows, names_over_parts, names_tell_bounds, sums_over_items,
+    weak_duality,
 };
 use sequence::Sequence;
 use std::test::Fail;
@@ -40,11 +41,13 @@ fn lists_and_laws(rt: HostRuntime) -> Result<(), Fail> {
     weak_duality();
     best_costs_least();
     blocked_forbids();
-    part_flows_count();
-    part_cycles_block();
     items_tell_flows();
-    items_count();
-    items_spread();
-    names_stay();
+    sums_over_items();
+    names_tell_bounds();
+    flows_extend();
+    flows_over_parts();
+    cycles_over_parts();
+    items_over_parts();
+    names_over_parts();
     Ok(())
 }

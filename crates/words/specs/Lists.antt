@@ -12,7 +12,8 @@ abbrev pub rotated : {A : Type 0} → List A → List A
 rotated [] = []
 rotated (x ∷ xs) = xs ++ x ∷ []
 
--- The first list is a part of the second one: some elements of that are left out, and the others stand in the same order.
+-- The first list is a part of the second one: elements of that are left out, some, all or none of them, and the others
+-- stand in the same order. So each list is a part of itself.
 pub data IsPart {A : Type 0} : List A → List A → Type 0 where
   none : IsPart [] []
   kept : {x : A} {part whole : List A} → IsPart part whole → IsPart (x ∷ part) (x ∷ whole)
