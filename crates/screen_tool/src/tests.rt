@@ -17,6 +17,9 @@ const READINGS: &[u8] = b"time,x\n0,10\n1,11\n2,12\n";
 
 const CERT: &[u8] = b"screen-cert 1\nclaim repair\ntotal 0\nend\n";
 
+/// The words of `global`.
+const GLOBAL: [&str; 4] = ["global", "r", "d", "c"];
+
 /// A run of `global`: how it ended, and what it wrote.
 #[derive(Drop)]
 struct Ran {
@@ -50,7 +53,7 @@ fn source(alloc: Global, bytes: &[u8], fails: &[u64]) -> Result<MemSource, Alloc
 }
 
 fn sink(alloc: Global, fails: &[u64]) -> Result<MemSink, AllocError> {
-    MemSink::new(alloc, 20_000, fails.to_vec(alloc)?, 8)
+    MemSink::new(alloc, 40_000, fails.to_vec(alloc)?, 8)
 }
 
 fn run_with(
@@ -95,13 +98,7 @@ fn run_over(
 fn global(alloc: Global, rules: &[u8], readings: &[u8]) -> Result<Ran, AllocError> {
     let rules = source(alloc, rules, &[])?;
     let readings = source(alloc, readings, &[])?;
-    run_with(
-        alloc,
-        &["global", "r", "d", "c"],
-        rules,
-        readings,
-        sink(alloc, &[])?,
-    )
+    run_with(alloc, &GLOBAL, rules, readings, sink(alloc, &[])?)
 }
 
 #[test]
@@ -154,12 +151,13 @@ fn a_step_is_rounded_down(rt: HostRuntime) -> Result<(), Fail> {
     Ok(())
 }
 
-/// A row a second, whose reading rises and falls by one; each row has its newline.
-fn swinging(alloc: Global, rows: u32) -> Result<String, Fail> {
-    let mut text = String::from_str(alloc, "time,x\n")?;
-    for second in 0..rows {
-        let value = second % 2;
-        text.push_str(format!(in alloc; "{second},{value}\n")?.as_str())?;
+/// So many rows, a second apart, whose readings fall and rise by one; times have nine digits and readings a sign.
+fn swinging(alloc: Global, sensor: &str, rows: u32) -> Result<String, Fail> {
+    let mut text = format!(in alloc; "time,{sensor}\n")?;
+    for row in 0..rows {
+        let time = 900_000_000 + row;
+        let value = 123_456_780 + row % 2;
+        text.push_str(format!(in alloc; "{time},-{value}\n")?.as_str())?;
     }
     Ok(text)
 }
@@ -167,16 +165,22 @@ fn swinging(alloc: Global, rows: u32) -> Result<String, Fail> {
 #[test]
 fn a_thousand_rows_within_one_window(rt: HostRuntime) -> Result<(), Fail> {
     let alloc = rt.alloc();
+    let sensor = "abcdefghijklmnopqrstuvwxyzabcdef";
     let rules = changed(alloc, "window = 10", "window = 1000")?;
-    let text = swinging(alloc, 1_000)?;
-    let readings = text.as_bytes();
+    let rules = match rules.as_str().split_once("\"x\"") {
+        Some((before, after)) => format!(in alloc; "{before}\"{sensor}\"{after}")?,
+        None => rules,
+    };
+    let mut text = swinging(alloc, sensor, 999)?;
+    let obeying = format!(in alloc; "{}900000999,-123456781\n", text.as_str())?;
+    let readings = obeying.as_bytes();
     global(alloc, rules.as_bytes(), readings)?.assert_is(&rt, Status::Done, readings, CERT, b"");
-    let mut spiked = text.clone()?;
-    spiked.push_str("1000,3\n")?;
-    let note = b"screen: readings refused: NotBuilt, row 0, column 0\n";
-    global(alloc, rules.as_bytes(), spiked.as_bytes())?.assert_is(
+    // The last reading breaks the bound to the one before it.
+    text.push_str("900000999,-123456790\n")?;
+    let note = b"screen: the readings need repair\n";
+    global(alloc, rules.as_bytes(), text.as_bytes())?.assert_is(
         &rt,
-        Status::ReadingsRefused,
+        Status::NeedsRepair,
         b"",
         b"",
         note,
@@ -238,9 +242,11 @@ fn too_many_rules_and_too_long_a_file_are_named(rt: HostRuntime) -> Result<(), F
     }
     assert_refused(&rt, alloc, rules.as_str(), "TooMany, rule 0")?;
     let mut rules = String::from_str(alloc, BASE)?;
-    for _ in 0..1_048_576 / 8 {
-        rules.push_str("# space\n")?;
+    while rules.len() < 1_048_576 {
+        rules.push_str("\n")?;
     }
+    global(alloc, rules.as_bytes(), READINGS)?.assert_is(&rt, Status::Done, READINGS, CERT, b"");
+    rules.push_str("\n")?;
     assert_refused(&rt, alloc, rules.as_str(), "FileTooLong, rule 0")
 }
 
@@ -311,71 +317,97 @@ fn words_that_are_no_command_give_the_usage(rt: HostRuntime) -> Result<(), Fail>
 #[test]
 fn a_read_that_fails_writes_nothing(rt: HostRuntime) -> Result<(), Fail> {
     let alloc = rt.alloc();
-    let texts = ["global", "r", "d", "c"];
     let note = b"screen: a read failed\n";
-    let rules = source(alloc, RULES, &[])?;
-    let readings = source(alloc, READINGS, &[2])?;
-    let out = sink(alloc, &[])?;
-    run_with(alloc, &texts, rules, readings, out)?.assert_is(
-        &rt,
-        Status::ReadFault,
-        b"",
-        b"",
-        note,
-    );
-    let rules = source(alloc, RULES, &[1])?;
-    let readings = source(alloc, READINGS, &[])?;
-    let out = sink(alloc, &[])?;
-    run_with(alloc, &texts, rules, readings, out)?.assert_is(
-        &rt,
-        Status::ReadFault,
-        b"",
-        b"",
-        note,
-    );
+    // Sixteen bytes come in each call, and none in the last one.
+    for (rules, readings) in [(1, 0), (3, 0), (7, 0), (0, 1), (0, 2), (0, 3)] {
+        let rules = source(alloc, RULES, &[rules])?;
+        let readings = source(alloc, READINGS, &[readings])?;
+        run_with(alloc, &GLOBAL, rules, readings, sink(alloc, &[])?)?.assert_is(
+            &rt,
+            Status::ReadFault,
+            b"",
+            b"",
+            note,
+        );
+    }
     Ok(())
 }
 
-#[test]
-fn a_write_that_fails_leaves_a_part(rt: HostRuntime) -> Result<(), Fail> {
-    let alloc = rt.alloc();
-    let rules = source(alloc, RULES, &[])?;
-    let readings = source(alloc, READINGS, &[])?;
-    let out = sink(alloc, &[2])?;
-    let ran = run_with(alloc, &["global", "r", "d", "c"], rules, readings, out)?;
-    let note = b"screen: a write failed\n";
-    ran.assert_is(&rt, Status::WriteFault, b"time,x\n0", CERT, note);
-    Ok(())
+/// The front of a text that a sink holds which takes eight bytes a call and fails at this one.
+fn front(text: &[u8], call: u64) -> &[u8]
+    requires { 1 ≤ call }
+{
+    let held = (call - 1).saturating_mul(8).min(text.len() as u64);
+    &text[..held as usize]
+}
+
+/// Whether the call is made: a write for each eight bytes, and one that finishes.
+fn is_made(text: &[u8], call: u64) -> bool {
+    call <= (text.len() as u64).div_ceil(8) + 1
 }
 
 #[test]
-fn a_certificate_that_fails_keeps_the_readings_back(rt: HostRuntime) -> Result<(), Fail> {
+fn a_sink_that_fails_holds_a_front_of_its_text(rt: HostRuntime) -> Result<(), Fail> {
     let alloc = rt.alloc();
-    let rules = source(alloc, RULES, &[])?;
-    let readings = source(alloc, READINGS, &[])?;
-    let outs = Outputs {
-        out: sink(alloc, &[])?,
-        cert: sink(alloc, &[3])?,
-        note: sink(alloc, &[])?,
-    };
-    let ran = run_over(alloc, &["global", "r", "d", "c"], rules, readings, outs)?;
-    let note = b"screen: a write failed\n";
-    ran.assert_is(&rt, Status::WriteFault, b"", b"screen-cert 1\ncl", note);
+    let failed = b"screen: a write failed\n";
+    for call in 1..8u64 {
+        let outs = Outputs {
+            out: sink(alloc, &[])?,
+            cert: sink(alloc, &[call])?,
+            note: sink(alloc, &[])?,
+        };
+        let ran = run_over(
+            alloc,
+            &GLOBAL,
+            source(alloc, RULES, &[])?,
+            source(alloc, READINGS, &[])?,
+            outs,
+        )?;
+        if is_made(CERT, call) {
+            ran.assert_is(&rt, Status::WriteFault, b"", front(CERT, call), failed);
+        } else {
+            ran.assert_is(&rt, Status::Done, READINGS, CERT, b"");
+        }
+        let outs = Outputs {
+            out: sink(alloc, &[call])?,
+            cert: sink(alloc, &[])?,
+            note: sink(alloc, &[])?,
+        };
+        let ran = run_over(
+            alloc,
+            &GLOBAL,
+            source(alloc, RULES, &[])?,
+            source(alloc, READINGS, &[])?,
+            outs,
+        )?;
+        if is_made(READINGS, call) {
+            ran.assert_is(&rt, Status::WriteFault, front(READINGS, call), CERT, failed);
+        } else {
+            ran.assert_is(&rt, Status::Done, READINGS, CERT, b"");
+        }
+    }
     Ok(())
 }
 
 #[test]
 fn a_note_that_fails_changes_no_status(rt: HostRuntime) -> Result<(), Fail> {
     let alloc = rt.alloc();
-    let rules = source(alloc, RULES, &[])?;
-    let readings = source(alloc, b"", &[])?;
-    let outs = Outputs {
-        out: sink(alloc, &[])?,
-        cert: sink(alloc, &[])?,
-        note: sink(alloc, &[2])?,
-    };
-    let ran = run_over(alloc, &["global", "r", "d", "c"], rules, readings, outs)?;
-    ran.assert_is(&rt, Status::ReadingsRefused, b"", b"", b"screen: ");
+    let note = b"screen: readings refused: NotBuilt, row 0, column 0\n";
+    for call in 1..9u64 {
+        let outs = Outputs {
+            out: sink(alloc, &[])?,
+            cert: sink(alloc, &[])?,
+            note: sink(alloc, &[call])?,
+        };
+        let ran = run_over(
+            alloc,
+            &GLOBAL,
+            source(alloc, RULES, &[])?,
+            source(alloc, b"", &[])?,
+            outs,
+        )?;
+        ran.assert_is(&rt, Status::ReadingsRefused, b"", b"", front(note, call));
+    }
     Ok(())
 }
 
