@@ -1,5 +1,5 @@
 -- Which numbers are among those of the arcs that leave a node.
-use Rattle.std.proofs.Common.{◌≡◌, ℕ, zero, suc, ◌+◌, ◌<◌, ◌⊎◌, Bool, true, false, cond, eqb, List, [], ◌∷◌, length, get_or, Contains, refl, sym, ap, ◌∙◌, subst, inl, inr, ⊎_elim, arith}
+use Rattle.std.proofs.Common.{◌≡◌, ℕ, zero, suc, ◌+◌, Bool, true, false, cond, eqb, List, [], ◌∷◌, Contains, refl, sym, ap, ◌∙◌, subst, ⊎_elim, arith}
 use Rattle.std.proofs.lemmas.Bool.{eqb-true, eq-eqb, cond-true}
 use Rattle.words.proofs.Lists.{contains_later, contains_cases}
 use Rattle.bound_graph.specs.declared.arc.Arc.{Arc}

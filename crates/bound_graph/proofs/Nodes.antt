@@ -1,7 +1,7 @@
 -- The nodes of places, as a map holds them.
-use Rattle.std.proofs.Common.{◌≡◌, ◌≢◌, ℕ, zero, suc, ◌+◌, ◌<◌, true, false, cond, eqb, List, [], ◌∷◌, length, get_or, Some, unwrap_or, Contains, refl, sym, subst, ap, ◌∙◌, ⊎_elim, arith}
+use Rattle.std.proofs.Common.{◌≡◌, ◌≢◌, ℕ, zero, suc, ◌+◌, ◌<◌, true, false, cond, List, [], ◌∷◌, length, get_or, Some, unwrap_or, Contains, sym, subst, ap, ◌∙◌, ⊎_elim, arith}
 use Rattle.std.specs.HashMap.{get, Updates}
-use Rattle.std.proofs.lemmas.Bool.{cases_Bool, cases_lt, and_parts, and_from, eqb-true, eq-eqb, cond-true, cond-false, false_from_ne_true}
+use Rattle.std.proofs.lemmas.Bool.{cases_Bool, cases_lt, cond-true, cond-false}
 use Rattle.std.proofs.lemmas.List.Elements.{All-from_recursion}
 use Rattle.screen_model.specs.declared.place.Place.{Place}
 use Rattle.screen_model.proofs.Places.{same_place, place_from_same, other_place}

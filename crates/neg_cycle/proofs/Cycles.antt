@@ -12,7 +12,6 @@ use Rattle.neg_cycle.specs.declared.forest.Parent.{Parent}
 use Rattle.bound_graph.specs.Cycle.{IsNegativeCycle}
 use Rattle.neg_cycle.specs.Forest.{parent_at, IsParentCycle}
 use Rattle.neg_cycle.specs.Labels.{IsParentOf, IsWithin, IsLabelling, HoldsCycle, parent_arc, parent_arcs}
-use Rattle.words.proofs.Lists.{map-rotated}
 use Rattle.bound_graph.proofs.Cycles.{over, over-rotated}
 use Rattle.words.proofs.Lists.{map-reverse, rotated-reverse-rotated, distinct_rotated, distinct_reverse}
 use Rattle.words.proofs.Sums.{total-reverse}

@@ -1,12 +1,12 @@
 -- Arcs turned round.
-use Rattle.std.proofs.Common.{◌≡◌, ℕ, zero, suc, ◌<◌, ℤ, pos, ◌-ℤ◌, ◌+ℤ◌, ◌≤ℤ◌, ◌↔◌, List, [], ◌∷◌, length, get_or, map, Option, None, Some, refl, sym, ap, ◌∙◌, subst, arith}
+use Rattle.std.proofs.Common.{◌≡◌, ℕ, zero, suc, ℤ, pos, ◌-ℤ◌, List, [], ◌∷◌, length, Option, None, Some, refl, sym, ap, ◌∙◌, subst, arith}
 use Rattle.std.specs.Prelude.{option_map}
 use Rattle.std.proofs.lemmas.Int.{ints}
 use Rattle.std.proofs.lemmas.List.{length-map}
 use Rattle.bound_graph.specs.declared.arc.Arc.{Arc}
 use Rattle.bound_graph.specs.Arcs.{arc_at}
-use Rattle.bound_graph.specs.Values.{value_of, RespectsArc, RespectsIfThere, RespectsArcs}
-use Rattle.neg_cycle.specs.Distances.{AreAtMost, IsGreatest, IsLeast}
+use Rattle.bound_graph.specs.Values.{value_of, RespectsIfThere, RespectsArcs}
+use Rattle.neg_cycle.specs.Distances.{AreAtMost}
 use Rattle.neg_cycle.specs.Turned.{turned, all_turned, negated, TurnedIsNegated, LeastByTurning}
 
 pub turned_at : (arcs : List (Option Arc)) (i : ℕ) → arc_at (all_turned arcs) i ≡ option_map turned (arc_at arcs i)
