@@ -155,7 +155,7 @@ fn a_step_is_rounded_down(rt: HostRuntime) -> Result<(), Fail> {
 fn swinging(alloc: Global, sensor: &str, rows: u32) -> Result<String, Fail> {
     let mut text = format!(in alloc; "time,{sensor}\n")?;
     for row in 0..rows {
-        let time = 900_000_000 + row;
+        let time = 900_000_000 + u64::from(row);
         let value = 123_456_780 + row % 2;
         text.push_str(format!(in alloc; "{time},-{value}\n")?.as_str())?;
     }
@@ -242,7 +242,7 @@ fn too_many_rules_and_too_long_a_file_are_named(rt: HostRuntime) -> Result<(), F
     }
     assert_refused(&rt, alloc, rules.as_str(), "TooMany, rule 0")?;
     let mut rules = String::from_str(alloc, BASE)?;
-    while rules.len() < 1_048_576 {
+    for _ in rules.len()..1_048_576 {
         rules.push_str("\n")?;
     }
     global(alloc, rules.as_bytes(), READINGS)?.assert_is(&rt, Status::Done, READINGS, CERT, b"");
@@ -334,10 +334,11 @@ fn a_read_that_fails_writes_nothing(rt: HostRuntime) -> Result<(), Fail> {
 }
 
 /// The front of a text that a sink holds which takes eight bytes a call and fails at this one.
-fn front(text: &[u8], call: u64) -> &[u8]
-    requires { 1 ≤ call }
-{
-    let held = (call - 1).saturating_mul(8).min(text.len() as u64);
+fn front(text: &[u8], call: u64) -> &[u8] {
+    let held = call
+        .saturating_sub(1)
+        .saturating_mul(8)
+        .min(text.len() as u64);
     &text[..held as usize]
 }
 
