@@ -14,7 +14,7 @@ use Rattle.screen_model.specs.Obeys.{Priced, Obeys, with_prices}
 use Rattle.screen_model.specs.Cost.{Problem, change, paid, cost}
 use Rattle.screen_model.specs.Flow.{IsAdmissible, pull, dual_value}
 use Rattle.screen_model.specs.Names.{names_of, IsFlowOver, amounts_of, items_of, bounds_named}
-use Rattle.screen_model.specs.Parts.{IsExtended, no_bounds, same_amount, no_amount}
+use Rattle.screen_model.specs.Parts.{IsExtended, no_bounds, same_amount, no_amount, bounds_with_price}
 use Rattle.screen_model.specs.Best.{IsBest, IsBestByItems, IsBlocked, IsBlockedByNames}
 
 -- the place of the reading in a row
@@ -188,6 +188,10 @@ jump_flow-extended = no_amount (no_amount (no_amount (no_amount (same_amount (sa
 
 jump-part : IsPart (speed 1 1 1 2) jump.bounds
 jump-part = left_out (left_out (left_out (left_out (kept (kept none)))))
+
+-- it has all bounds that have a price
+jump-part_prices : bounds_with_price (speed 1 1 1 2) ≡ bounds_with_price jump.bounds
+jump-part_prices = refl
 
 -- a limit without a price may not be broken
 jump-breaks : Obeys jump.places jump.values (speed 0 1 1 2) → ⊥

@@ -1,3 +1,4 @@
+pub mod Carried
 pub mod Cycles
 pub mod Duality
 pub mod Examples
@@ -6,4 +7,5 @@ pub mod Items
 pub mod Names
 pub mod Parts
 pub mod Places
+pub mod Prices
 pub mod Pulls

@@ -1,5 +1,5 @@
 -- Bounds that are told by their names.
-use Rattle.std.proofs.Common.{◌≡◌, ◌≢◌, true, false, cond, ◌⊎◌, inl, inr, List, [], ◌∷◌, ◌++◌, refl, sym, ap, ◌∙◌, subst}
+use Rattle.std.proofs.Common.{◌≡◌, ◌≢◌, true, false, cond, ◌⊎◌, inl, inr, List, [], ◌∷◌, ◌++◌, map, refl, sym, ap, ◌∙◌, subst}
 use Rattle.std.specs.Prelude.{Contains, filter}
 use Rattle.std.specs.List.{AllByRecursion}
 use Rattle.std.proofs.lemmas.Bool.{eqb-true, eq-eqb, and_from, and_parts, false≢true, false_from_ne_true}
@@ -67,19 +67,22 @@ bearing_none name_of name (x ∷ xs) others = bearing_skips name_of name x xs ot
 abbrev pub name_of : Priced → BoundName
 name_of priced = priced.bound.name
 
--- where names are distinct, the bound of a name is the one that bears it
-found : (priced : Priced) (first : Priced) (bounds : List Priced) → Distinct (names_of (first ∷ bounds)) → (first ≡ priced) ⊎ Contains bounds priced
-    → (Contains bounds priced → bearing name_of (name_of priced) bounds ≡ priced ∷ []) → bearing name_of (name_of priced) (first ∷ bounds) ≡ priced ∷ []
-found priced first bounds distinct (inl e) rest =
-    let none_left = bearing_none name_of (name_of first) bounds (all_from_map (λ name. name_of first ≢ name) name_of bounds distinct.0) in
-    subst (λ (p : Priced). bearing name_of (name_of p) (first ∷ bounds) ≡ p ∷ []) e (bearing_passes name_of first bounds ∙ ap (λ ps. first ∷ ps) none_left)
-found priced first bounds distinct (inr later) rest =
-    bearing_skips name_of (name_of priced) first bounds (λ e. all_at (λ name. name_of first ≢ name) (names_of bounds) (name_of priced) distinct.0 (contains_map name_of bounds priced later) (sym e))
+-- where names are distinct, what bears a name is one alone
+found : {A : Type 0} (name_of : A → BoundName) (x first : A) (xs : List A) → Distinct (map name_of (first ∷ xs)) → (first ≡ x) ⊎ Contains xs x
+    → (Contains xs x → bearing name_of (name_of x) xs ≡ x ∷ []) → bearing name_of (name_of x) (first ∷ xs) ≡ x ∷ []
+found {A} name_of x first xs distinct (inl e) rest =
+    let none_left = bearing_none name_of (name_of first) xs (all_from_map (λ name. name_of first ≢ name) name_of xs distinct.0) in
+    subst (λ (y : A). bearing name_of (name_of y) (first ∷ xs) ≡ y ∷ []) e (bearing_passes name_of first xs ∙ ap (λ ys. first ∷ ys) none_left)
+found name_of x first xs distinct (inr later) rest =
+    bearing_skips name_of (name_of x) first xs (λ e. all_at (λ name. name_of first ≢ name) (map name_of xs) (name_of x) distinct.0 (contains_map name_of xs x later) (sym e))
     ∙ rest later
 
+pub one_bearing : {A : Type 0} (name_of : A → BoundName) (xs : List A) (x : A) → Distinct (map name_of xs) → Contains xs x → bearing name_of (name_of x) xs ≡ x ∷ []
+one_bearing name_of [] x distinct h = absurd (contains_none x h)
+one_bearing name_of (first ∷ xs) x distinct h = found name_of x first xs distinct (contains_cases first xs x h) (one_bearing name_of xs x distinct.1)
+
 pub bound_named : (bounds : List Priced) (priced : Priced) → Distinct (names_of bounds) → Contains bounds priced → filter (λ other. is_same_name priced.bound.name other.bound.name) bounds ≡ priced ∷ []
-bound_named [] priced distinct h = absurd (contains_none priced h)
-bound_named (first ∷ bounds) priced distinct h = found priced first bounds distinct (contains_cases first bounds priced h) (bound_named bounds priced distinct.1)
+bound_named bounds priced distinct h = one_bearing name_of bounds priced distinct h
 
 named_are : (bounds members : List Priced) → Distinct (names_of bounds) → AllByRecursion (Contains bounds) members → bounds_named (names_of members) bounds ≡ members
 named_are bounds [] distinct all = refl

@@ -1,5 +1,5 @@
 -- Flows over a part of a list of bounds, extended over all of them; cycles of a part.
-use Rattle.std.proofs.Common.{◌≡◌, ◌≤◌, ℤ, pos, neg_ℤ, ◌-ℤ◌, List, [], ◌∷◌, length, map, refl, sym, ap, ◌∙◌, subst, arith}
+use Rattle.std.proofs.Common.{◌≡◌, ◌+◌, ◌≤◌, ℤ, pos, neg_ℤ, ◌-ℤ◌, List, [], ◌∷◌, length, map, sum, refl, sym, ap, ◌∙◌, subst, arith}
 use Rattle.std.specs.Prelude.{Contains, unsigned_abs}
 use Rattle.std.specs.List.{AllZip}
 use Rattle.std.proofs.lemmas.Int.{ints}
@@ -9,8 +9,10 @@ use Rattle.words.specs.Lists.{IsPart, none, kept, left_out, inner_product}
 use Rattle.words.proofs.Lists.{all_weaker}
 use Rattle.words.proofs.Parts.{part_contains}
 use Rattle.screen_model.specs.Obeys.{Priced}
+use Rattle.screen_model.specs.Cost.{payment, change}
 use Rattle.screen_model.specs.Flow.{CanCarry, unit_pull, pull}
-use Rattle.screen_model.specs.Parts.{IsExtended, no_bounds, same_amount, no_amount, FlowsExtend, FlowsOverParts, CyclesOverParts}
+use Rattle.screen_model.specs.Parts.{IsExtended, no_bounds, same_amount, no_amount, FlowsExtend, FlowsOverParts, CyclesOverParts, CostsOverParts, BestOverParts}
+use Rattle.screen_model.proofs.Prices.{paid_for_priced}
 
 extend : {part bounds : List Priced} (flow : List ℤ) → IsPart part bounds → length flow ≡ length part → (extended : List ℤ) × IsExtended part flow bounds extended
 extend [] none long = ([], no_bounds)
@@ -57,3 +59,21 @@ cycles_over part bounds cycle is_part blocked = record {
   simple = blocked.simple;
   negative = blocked.negative;
 }
+
+pub costs_over : CostsOverParts
+costs_over problem part series same =
+    let pay = payment problem.places series in
+    let same_paid : sum (map pay part) ≡ sum (map pay problem.bounds) =
+    sym (paid_for_priced problem.places series part) ∙ ap (λ bounds. sum (map pay bounds)) same ∙ paid_for_priced problem.places series problem.bounds in
+    ap (λ n. change problem series + n) same_paid
+
+pub best_over : BestOverParts
+best_over problem part series flow extended is_extended same obeys best =
+    let whole = flows_over problem part flow extended is_extended best.admissible in
+    record {
+      sound = record { distinct = best.sound.distinct; valued = best.sound.valued; weighted = best.sound.weighted };
+      whole = best.whole;
+      obeys = obeys;
+      admissible = whole.0;
+      equal = whole.1 ∙ best.equal ∙ ap pos (costs_over problem part series same);
+    }

@@ -4,4 +4,5 @@ pub mod Flow
 pub mod Names
 pub mod Obeys
 pub mod Parts
+pub mod Prices
 pub mod Series

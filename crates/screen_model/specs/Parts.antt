@@ -1,13 +1,13 @@
 -- To be believed: what holds of a part of a list of bounds, which may be all of them, and of the whole list.
-use Rattle.std.specs.Prelude.{◌≡◌, ℤ, pos, List, [], ◌∷◌, length}
+use Rattle.std.specs.Prelude.{◌≡◌, ◌==◌, not, ℤ, pos, List, [], ◌∷◌, length, filter}
 use Rattle.screen_model.specs.declared.bound.BoundName.{BoundName}
 use Rattle.screen_model.specs.declared.bound.FlowItem.{FlowItem}
 use Rattle.words.specs.Lists.{Distinct, IsPart}
-use Rattle.screen_model.specs.Obeys.{Priced}
-use Rattle.screen_model.specs.Cost.{Problem}
+use Rattle.screen_model.specs.Obeys.{Priced, Obeys}
+use Rattle.screen_model.specs.Cost.{Problem, cost}
 use Rattle.screen_model.specs.Flow.{IsAdmissible, dual_value}
 use Rattle.screen_model.specs.Names.{names_of, AreNamesIn, bounds_named, amounts_of, IsFlowOver}
-use Rattle.screen_model.specs.Best.{IsBlocked}
+use Rattle.screen_model.specs.Best.{IsBest, IsBlocked}
 
 -- A flow over a part of the bounds, extended by 0: the last list is the flow over all bounds that has the same amounts
 -- on the part, and 0 on the bounds that are left out.
@@ -42,3 +42,18 @@ ItemsOverParts = (part bounds : List Priced) (items : List FlowItem) → IsPart 
 abbrev pub NamesOverParts : Type 0
 NamesOverParts = (part bounds : List Priced) (names : List BoundName) → IsPart part bounds → Distinct (names_of bounds) → AreNamesIn part names
     → AreNamesIn bounds names × (bounds_named names bounds ≡ bounds_named names part)
+
+-- the bounds that have a price, in their order
+abbrev pub bounds_with_price : List Priced → List Priced
+bounds_with_price bounds = filter (λ priced. not (priced.price == 0)) bounds
+
+-- Where a part has all the bounds that have a price, a series costs over the part what it costs over all bounds.
+abbrev pub CostsOverParts : Type 0
+CostsOverParts = (problem : Problem) (part : List Priced) (series : List ℤ) → bounds_with_price part ≡ bounds_with_price problem.bounds
+    → cost (record problem { bounds = part }) series ≡ cost problem series
+
+-- Where a part has all the bounds that have a price, and a best series over the part obeys all bounds, it is best over all.
+abbrev pub BestOverParts : Type 0
+BestOverParts = (problem : Problem) (part : List Priced) (series flow extended : List ℤ) → IsExtended part flow problem.bounds extended
+    → bounds_with_price part ≡ bounds_with_price problem.bounds → Obeys problem.places series problem.bounds
+    → IsBest (record problem { bounds = part }) series flow → IsBest problem series extended

@@ -14,9 +14,10 @@ mod tests;
 
 pub use bound::{Bound, BoundName, FlowItem, Side};
 pub use laws::{
-    best_costs_least, blocked_forbids, cycles_over_parts, flows_extend, flows_over_parts,
-    items_over_parts, items_tell_flows, names_over_parts, names_tell_bounds, sums_over_items,
-    weak_duality,
+    best_costs_least, best_over_parts, blocked_forbids, costs_over_parts, cycles_over_parts,
+    flows_extend, flows_over_parts, items_over_parts, items_tell_flows, items_within_prices,
+    names_over_parts, names_tell_bounds, prices_by_bound, prices_keep_bounds, sums_over_items,
+    weak_duality, zero_prices,
 };
 pub use place::{End, Place};
 use sequence::Sequence;

@@ -1,8 +1,9 @@
 use crate::{
     Bound, BoundList, BoundName, End, FlowItem, FlowList, NameList, Place, Places, Series, Side,
-    best_costs_least, blocked_forbids, cycles_over_parts, flows_extend, flows_over_parts,
-    items_over_parts, items_tell_flows, names_over_parts, names_tell_bounds, sums_over_items,
-    weak_duality,
+    best_costs_least, best_over_parts, blocked_forbids, costs_over_parts, cycles_over_parts,
+    flows_extend, flows_over_parts, items_over_parts, items_tell_flows, items_within_prices,
+    names_over_parts, names_tell_bounds, prices_by_bound, prices_keep_bounds, sums_over_items,
+    weak_duality, zero_prices,
 };
 use sequence::Sequence;
 use std::test::Fail;
@@ -49,5 +50,11 @@ fn lists_and_laws(rt: HostRuntime) -> Result<(), Fail> {
     cycles_over_parts();
     items_over_parts();
     names_over_parts();
+    costs_over_parts();
+    best_over_parts();
+    prices_keep_bounds();
+    prices_by_bound();
+    zero_prices();
+    items_within_prices();
     Ok(())
 }

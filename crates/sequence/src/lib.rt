@@ -151,6 +151,30 @@ mod tests {
     }
 
     #[test]
+    fn sizes_grow_from_none_to_many(rt: HostRuntime) -> Result<(), Fail> {
+        for size in [0, 1, 70_000usize] {
+            let mut numbers = Sequence::new(rt.alloc());
+            for number in 0..size {
+                numbers.push(number)?;
+            }
+            assert_eq!(rt; numbers.len(), size);
+            assert_eq!(rt; numbers.is_empty(), size == 0);
+            assert_eq!(rt; numbers.get(size), None);
+            for (index, number) in numbers.as_slice().iter().enumerate() {
+                assert_eq!(rt; *number, index);
+            }
+            let mut copied = Sequence::from_slice(rt.alloc(), numbers.as_slice())?;
+            assert_eq!(rt; copied.as_slice(), numbers.as_slice());
+            copied.extend_from_slice(numbers.as_slice())?;
+            assert_eq!(rt; copied.len(), 2 * size);
+            let roomy: Sequence<usize> = Sequence::with_capacity(rt.alloc(), size)?;
+            assert!(rt; roomy.is_empty());
+            assert_eq!(rt; roomy.into_vec().capacity(), size);
+        }
+        Ok(())
+    }
+
+    #[test]
     fn elements_are_taken_over(rt: HostRuntime) -> Result<(), Fail> {
         let mut values = Sequence::with_capacity(rt.alloc(), 3)?;
         assert!(rt; values.is_empty());
