@@ -1,5 +1,5 @@
 //! The words of commands, and what each end of a command is.
-ghost use Rattle.std.specs.Prelude.{◌≡◌, map, string_bytes};
+ghost use Rattle.std.specs.Prelude.{◌≡◌};
 ghost use Rattle.screen_tool.specs.Command.{command_of, roles_of, texts};
 
 use crate::ends::{EndUse, Roles};

@@ -1,5 +1,4 @@
 //! The steps of a command that read its rules and its readings.
-ghost use Rattle.std.specs.Prelude.{◌≡◌};
 ghost use Rattle.rule_file.specs.declared.read.TheConstants.{LONGEST as longest_rules};
 ghost use Rattle.series_csv.specs.declared.read.TheConstants.{LONGEST as longest_readings};
 ghost use Rattle.series_csv.specs.ReadingsFile.{Reads as ReadsReadings};

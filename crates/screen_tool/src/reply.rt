@@ -1,5 +1,5 @@
 //! What a command has to say and to write, and how that is written.
-ghost use Rattle.std.specs.Prelude.{◌≡◌, Option, List, ℕ, OnOk, OnErr, option_map};
+ghost use Rattle.std.specs.Prelude.{OnOk, OnErr, option_map};
 ghost use Rattle.screen_tool.specs.Performance.{IsCut, IsWritten};
 
 use crate::status::Outcome;
