@@ -8,6 +8,27 @@ use crate::{
 use sequence::Sequence;
 use std::test::Fail;
 
+/// Laws can be called from programs as they are from proofs.
+fn call_laws() {
+    weak_duality();
+    best_costs_least();
+    blocked_forbids();
+    items_tell_flows();
+    sums_over_items();
+    names_tell_bounds();
+    flows_extend();
+    flows_over_parts();
+    cycles_over_parts();
+    items_over_parts();
+    names_over_parts();
+    costs_over_parts();
+    best_over_parts();
+    prices_keep_bounds();
+    prices_by_bound();
+    zero_prices();
+    items_within_prices();
+}
+
 #[test]
 fn lists_and_laws(rt: HostRuntime) -> Result<(), Fail> {
     let mut places: Places = Sequence::new(rt.alloc());
@@ -39,22 +60,6 @@ fn lists_and_laws(rt: HostRuntime) -> Result<(), Fail> {
     assert_eq!(rt; bounds.as_slice(), [rise].as_slice());
     assert_eq!(rt; flow.get(0), Some(&FlowItem { name, amount: 1 }));
     assert_eq!(rt; names.as_slice(), [name].as_slice());
-    weak_duality();
-    best_costs_least();
-    blocked_forbids();
-    items_tell_flows();
-    sums_over_items();
-    names_tell_bounds();
-    flows_extend();
-    flows_over_parts();
-    cycles_over_parts();
-    items_over_parts();
-    names_over_parts();
-    costs_over_parts();
-    best_over_parts();
-    prices_keep_bounds();
-    prices_by_bound();
-    zero_prices();
-    items_within_prices();
+    call_laws();
     Ok(())
 }
