@@ -25,7 +25,7 @@ below_is letter none digits = refl
 below_is letter plus digits = refl
 below_is letter minus digits = refl
 
--- what is found behind a letter
+-- what is found after a letter
 pub record IsExponentFound (bytes : List ℕ) (negative : Bool) (size : ℕ) : Type 0 where
   pub power : IsExponent (exponent_of bytes)
   pub small : size < 1000

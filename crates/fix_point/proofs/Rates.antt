@@ -1,34 +1,12 @@
 -- Whole steps of rates.
-use Rattle.std.proofs.Common.{◌≡◌, ◌↔◌, ℕ, zero, suc, ◌*◌, ◌/◌, ◌^◌, ◌<◌, ◌≤◌, ℤ, pos, negsuc, neg_ℤ, ◌+ℤ◌, ◌-ℤ◌, ◌*ℤ◌, ◌≤ℤ◌, FitsSigned, to_z, of_z, refl, sym, ap, ◌∙◌, subst, arith}
+use Rattle.std.proofs.Common.{◌≡◌, ℕ, ◌*◌, ◌^◌, ◌<◌, ◌≤◌, ℤ, pos, negsuc, neg_ℤ, ◌+ℤ◌, ◌-ℤ◌, ◌*ℤ◌, ◌≤ℤ◌, FitsSigned, to_z, of_z, sym, ap, ◌∙◌, subst, arith}
 use Rattle.std.specs.Prelude.{unsigned_abs}
 use Rattle.std.specs.Int.{w64, w128, int_div_euclid}
 use Rattle.std.proofs.lemmas.Int.{ints, unsigned_abs-mul, fits_signed_mul, fits_signed_from_abs, to_z-of_z, to_z_pos}
-use Rattle.std.proofs.Math.Nat.{le-div_iff_mul-le, div-lt_iff_lt-mul, le_of_mul-le-mul_right}
-use Rattle.std.proofs.Math.IntN.{+ℤ_idl, *ℤ_comm, *ℤ-zero, zero-*ℤ, *ℤ-negsuc, suc_ℤ-*ℤ}
-use Rattle.std.proofs.lemmas.Nat.{mul-le}
+use Rattle.words.proofs.Products.{sum_mul, mul_sum, zero_minus_mul, within_size, size_of_minus, le_of_mul-le, at_most_floor}
 use Rattle.fix_point.specs.declared.rate.Rate.{Rate}
 use Rattle.fix_point.proofs.Sizes.{powers}
 use Rattle.fix_point.specs.Rates.{IsFloor, IsCeil}
-
--- a product with a sum
-mul_suc : (a : ℤ) (k : ℕ) → a *ℤ pos (suc k) ≡ (a *ℤ pos k) +ℤ a
-mul_suc a k = *ℤ_comm a (pos (suc k)) ∙ suc_ℤ-*ℤ (pos k) a ∙ ap (λ x. x +ℤ a) (*ℤ_comm (pos k) a)
-
-sum_mul_pos : (a b : ℤ) (k : ℕ) → (a +ℤ b) *ℤ pos k ≡ (a *ℤ pos k) +ℤ (b *ℤ pos k)
-sum_mul_pos a b zero = omega (arith, ints, *ℤ-zero (a +ℤ b), *ℤ-zero a, *ℤ-zero b)
-sum_mul_pos a b (suc k) = omega (arith, ints, mul_suc (a +ℤ b) k, mul_suc a k, mul_suc b k, sum_mul_pos a b k)
-
-sum_mul : (a b k : ℤ) → (a +ℤ b) *ℤ k ≡ (a *ℤ k) +ℤ (b *ℤ k)
-sum_mul a b (pos k) = sum_mul_pos a b k
-sum_mul a b (negsuc k) = omega (arith, ints, *ℤ-negsuc (a +ℤ b) k, *ℤ-negsuc a k, *ℤ-negsuc b k, sum_mul_pos a b (suc k))
-
-mul_sum : (k a b : ℤ) → k *ℤ (a +ℤ b) ≡ (k *ℤ a) +ℤ (k *ℤ b)
-mul_sum k a b = omega (arith, ints, *ℤ_comm k (a +ℤ b), *ℤ_comm k a, *ℤ_comm k b, sum_mul a b k)
-
-minus_mul : (a k : ℤ) → (pos 0 -ℤ a) *ℤ k ≡ pos 0 -ℤ (a *ℤ k)
-minus_mul a k =
-    let none : (pos 0 -ℤ a) +ℤ a ≡ pos 0 = omega (arith, ints) in
-    omega (arith, ints, sum_mul (pos 0 -ℤ a) a k, ap (λ x. x *ℤ k) none, zero-*ℤ k)
 
 sums_within : (a b c d e f : ℤ) → a ≤ℤ c → b ≤ℤ d → e ≡ a +ℤ b → f ≡ c +ℤ d → e ≤ℤ f
 sums_within a b c d e f g h i j = omega (arith, ints, g, h, i, j)
@@ -38,19 +16,6 @@ add_up rate d p q a b c x y z =
     let whole = pos (rate.per * 10 ^ 15) in
     let change = rate.millionths *ℤ pos (10 ^ d) in
     z.greatest (a +ℤ b) (sums_within (a *ℤ whole) (b *ℤ whole) (change *ℤ p) (change *ℤ q) ((a +ℤ b) *ℤ whole) (change *ℤ (p +ℤ q)) x.within y.within (sum_mul a b whole) (mul_sum change p q))
-
--- a step is at most a quotient rounded down just where its product is at most the dividend
-pub at_most_floor : (m d : ℤ) (p : ℕ) → 0 < p → (d ≤ℤ int_div_euclid m (pos p)) ↔ ((d *ℤ pos p) ≤ℤ m)
-at_most_floor (pos a) (pos k) p h = (
-  λ le. let below : k * p ≤ a = (le-div_iff_mul-le h).0 (omega (arith, ints)) in omega (arith, ints),
-  λ le. let below : k ≤ a / p = (le-div_iff_mul-le h).1 (omega (arith, ints)) in omega (arith, ints),
-)
-at_most_floor (pos a) (negsuc k) p h = (λ le. omega (arith, ints), λ le. omega (arith, ints))
-at_most_floor (negsuc a) (pos k) p h = (λ le. omega (arith, ints), λ le. omega (arith, ints))
-at_most_floor (negsuc a) (negsuc k) p h = (
-  λ le. let above : a < suc k * p = (div-lt_iff_lt-mul h).0 (omega (arith, ints)) in omega (arith, ints),
-  λ le. let below : a / p < suc k = (div-lt_iff_lt-mul h).1 (omega (arith, ints)) in omega (arith, ints),
-)
 
 pub floor_of : (rate : Rate) (d : ℕ) (dt change step : ℤ) → 1 ≤ rate.per → change ≡ (rate.millionths *ℤ pos (10 ^ d)) *ℤ dt → step ≡ int_div_euclid change (pos (rate.per * 10 ^ 15)) → IsFloor rate d dt step
 floor_of rate d dt change step some change_is step_is =
@@ -66,29 +31,16 @@ pub record IsStep (step : ℤ) : Type 0 where
   pub low : neg_ℤ (pos (4 * 10 ^ 15)) ≤ℤ step
   pub high : step ≤ℤ pos (4 * 10 ^ 15)
 
-within_abs : (z : ℤ) (n : ℕ) → unsigned_abs z ≤ n → (neg_ℤ (pos n) ≤ℤ z) × (z ≤ℤ pos n)
-within_abs (pos a) n h = (omega (arith, ints, h), omega (arith, ints, h))
-within_abs (negsuc a) n h = (omega (arith, ints, h), omega (arith, ints, h))
-
-not_above : (step : ℤ) (whole n : ℕ) → 0 < whole → (step *ℤ pos whole) ≤ℤ pos (n * whole) → step ≤ℤ pos n
-not_above (pos a) whole n some h = omega (arith, ints, le_of_mul-le-mul_right {m = a} {n = n} {k = whole} (omega (arith, ints, h)) some)
-not_above (negsuc a) whole n some h = omega (arith, ints)
-
 pub step_small : (rate : Rate) (d : ℕ) (dt step : ℤ) → 1 ≤ rate.per → IsFloor rate d dt step → unsigned_abs rate.millionths * 10 ^ d * unsigned_abs dt ≤ 4 * 10 ^ 30 * rate.per → IsStep step
 step_small rate d dt step some floor fits =
     let whole : 0 < rate.per * 10 ^ 15 = omega (arith, some) in
     let change = (rate.millionths *ℤ pos (10 ^ d)) *ℤ dt in
     let size : unsigned_abs change ≡ unsigned_abs rate.millionths * 10 ^ d * unsigned_abs dt = unsigned_abs-mul (rate.millionths *ℤ pos (10 ^ d)) dt ∙ ap (λ n. n * unsigned_abs dt) (unsigned_abs-mul rate.millionths (pos (10 ^ d))) in
-    let abs = within_abs change (4 * 10 ^ 15 * (rate.per * 10 ^ 15)) (omega (arith, size, fits)) in
+    let abs = within_size change (4 * 10 ^ 15 * (rate.per * 10 ^ 15)) (omega (arith, size, fits)) in
     record {
       low = floor.greatest (neg_ℤ (pos (4 * 10 ^ 15))) (omega (arith, ints, abs.0));
-      high = not_above step (rate.per * 10 ^ 15) (4 * 10 ^ 15) whole (omega (arith, ints, floor.within, abs.1));
+      high = le_of_mul-le step (4 * 10 ^ 15) (rate.per * 10 ^ 15) whole (omega (arith, ints, floor.within, abs.1));
     }
-
-pub abs_minus : (z : ℤ) → unsigned_abs (pos 0 -ℤ z) ≡ unsigned_abs z
-abs_minus (pos zero) = refl
-abs_minus (pos (suc a)) = ap unsigned_abs (+ℤ_idl (negsuc a))
-abs_minus (negsuc a) = ap unsigned_abs (+ℤ_idl (pos (suc a)))
 
 -- a ceiling is the floor of the opposite rate, turned
 turned_le : (change step turned ceil : ℤ) → turned ≡ pos 0 -ℤ change → ceil ≡ pos 0 -ℤ step → step ≤ℤ turned → change ≤ℤ ceil
@@ -103,11 +55,11 @@ least_turned other step ceil e h = omega (arith, ints, e, h)
 pub ceil_of : (rate : Rate) (d : ℕ) (dt millionths step ceil : ℤ) → millionths ≡ pos 0 -ℤ rate.millionths → ceil ≡ pos 0 -ℤ step → IsFloor (record { millionths = millionths; per = rate.per }) d dt step → IsCeil rate d dt ceil
 ceil_of rate d dt millionths step ceil e f floor =
     let change = rate.millionths *ℤ pos (10 ^ d) in
-    let turned : (millionths *ℤ pos (10 ^ d)) *ℤ dt ≡ pos 0 -ℤ (change *ℤ dt) = ap (λ x. (x *ℤ pos (10 ^ d)) *ℤ dt) e ∙ ap (λ x. x *ℤ dt) (minus_mul rate.millionths (pos (10 ^ d))) ∙ minus_mul change dt in
+    let turned : (millionths *ℤ pos (10 ^ d)) *ℤ dt ≡ pos 0 -ℤ (change *ℤ dt) = ap (λ x. (x *ℤ pos (10 ^ d)) *ℤ dt) e ∙ ap (λ x. x *ℤ dt) (zero_minus_mul rate.millionths (pos (10 ^ d))) ∙ zero_minus_mul change dt in
     let whole = pos (rate.per * 10 ^ 15) in
     record {
-      within = turned_le (change *ℤ dt) (step *ℤ whole) ((millionths *ℤ pos (10 ^ d)) *ℤ dt) (ceil *ℤ whole) turned (ap (λ x. x *ℤ whole) f ∙ minus_mul step whole) floor.within;
-      least = λ other h. least_turned other step ceil f (floor.greatest (pos 0 -ℤ other) (turned_ge (change *ℤ dt) (other *ℤ whole) ((millionths *ℤ pos (10 ^ d)) *ℤ dt) ((pos 0 -ℤ other) *ℤ whole) turned (minus_mul other whole) h));
+      within = turned_le (change *ℤ dt) (step *ℤ whole) ((millionths *ℤ pos (10 ^ d)) *ℤ dt) (ceil *ℤ whole) turned (ap (λ x. x *ℤ whole) f ∙ zero_minus_mul step whole) floor.within;
+      least = λ other h. least_turned other step ceil f (floor.greatest (pos 0 -ℤ other) (turned_ge (change *ℤ dt) (other *ℤ whole) ((millionths *ℤ pos (10 ^ d)) *ℤ dt) ((pos 0 -ℤ other) *ℤ whole) turned (zero_minus_mul other whole) h));
     }
 
 -- ---- the product in 128 bits
@@ -134,9 +86,6 @@ product_of a b x y m n e f g h small =
       same = ap (λ s. to_z w128 (of_z w128 (s *ℤ b))) e ∙ ap (λ t. to_z w128 (of_z w128 (x *ℤ t))) f ∙ to_z-of_z w128 (x *ℤ y) fits;
     }
 
-pub size_of_product : (x y : ℤ) (m n : ℕ) → unsigned_abs x ≤ m → unsigned_abs y ≤ n → unsigned_abs (x *ℤ y) ≤ m * n
-size_of_product x y m n g h = omega (arith, unsigned_abs-mul x y, mul-le (unsigned_abs x) (unsigned_abs y) m n g h)
-
 pub whole_wide : (per : ℕ) (r : ℤ) → per ≤ 10 ^ 7 → r ≡ pos per → to_z w128 (of_z w128 (to_z w128 (of_z w128 r) *ℤ pos (10 ^ 15))) ≡ pos (per * 10 ^ 15)
 whole_wide per r h e =
     ap (λ z. to_z w128 (of_z w128 (z *ℤ pos (10 ^ 15)))) (wide_pos per r (omega (arith, h)) e)
@@ -156,15 +105,15 @@ pub change_fits : (millionths : ℤ) → unsigned_abs millionths ≤ 10 ^ 15 →
 change_fits millionths h = fits_signed_from_abs w64 millionths (omega (arith, h))
 
 pub minus_fits : (step : ℤ) → IsStep step → FitsSigned w64 (pos 0 -ℤ step)
-minus_fits step s = fits_signed_from_abs w64 (pos 0 -ℤ step) (omega (arith, abs_minus step, abs_step step s))
+minus_fits step s = fits_signed_from_abs w64 (pos 0 -ℤ step) (omega (arith, size_of_minus step, abs_step step s))
 
 -- the opposite rate as the code has it
 pub opposite_is : (z : ℤ) → unsigned_abs z ≤ 10 ^ 15 → to_z w64 (of_z w64 (pos 0 -ℤ to_z w64 (of_z w64 z))) ≡ pos 0 -ℤ z
 opposite_is z h =
     ap (λ x. to_z w64 (of_z w64 (pos 0 -ℤ x))) (to_z-of_z w64 z (change_fits z h))
-    ∙ to_z-of_z w64 (pos 0 -ℤ z) (fits_signed_from_abs w64 (pos 0 -ℤ z) (omega (arith, abs_minus z, h)))
+    ∙ to_z-of_z w64 (pos 0 -ℤ z) (fits_signed_from_abs w64 (pos 0 -ℤ z) (omega (arith, size_of_minus z, h)))
 
 pub opposite_small : (rate : Rate) (d : ℕ) (dt millionths step : ℤ) → millionths ≡ pos 0 -ℤ rate.millionths → 1 ≤ rate.per → unsigned_abs rate.millionths * 10 ^ d * unsigned_abs dt ≤ 4 * 10 ^ 30 * rate.per → IsFloor (record { millionths = millionths; per = rate.per }) d dt step → IsStep step
 opposite_small rate d dt millionths step e some fits floor =
-    let size : unsigned_abs millionths * 10 ^ d * unsigned_abs dt ≡ unsigned_abs rate.millionths * 10 ^ d * unsigned_abs dt = ap (λ n. n * 10 ^ d * unsigned_abs dt) (ap unsigned_abs e ∙ abs_minus rate.millionths) in
+    let size : unsigned_abs millionths * 10 ^ d * unsigned_abs dt ≡ unsigned_abs rate.millionths * 10 ^ d * unsigned_abs dt = ap (λ n. n * 10 ^ d * unsigned_abs dt) (ap unsigned_abs e ∙ size_of_minus rate.millionths) in
     step_small (record { millionths = millionths; per = rate.per }) d dt step some floor (omega (arith, size, fits))

@@ -17,7 +17,7 @@ sign_text none = []
 sign_text plus = 43 ∷ []
 sign_text minus = 45 ∷ []
 
--- the part behind the whole digits: nothing, or a point and digits
+-- the part after the whole digits: nothing, or a point and digits
 pub data Fraction : Type 0 where
   no_point : Fraction
   point : List ℕ → Fraction

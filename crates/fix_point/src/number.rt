@@ -152,7 +152,7 @@ fn after_letter(bytes: &[u8]) -> Option<&[u8]>
 }
 
 /// The tens of the exponent at the front, and the bytes after it. There may be none, but what begins as
-/// an exponent has to be one.
+/// an exponent must be one.
 fn exponent_at(bytes: &[u8]) -> Option<(Tens, &[u8])>
     ensures found { IfSome result (λ found. AreTensOf (exponent_of bytes.now) found.0) }
     ensures rest { IfSome result (λ found. found.1.now ≡ after_exponent bytes.now) }

@@ -37,7 +37,7 @@ pub enum NumFault {
 /// The number of a text times 10^d, as a whole number: units of 10^-d, at most `most` in size.
 ///
 /// A number text is: spaces and tabs; `+`, `-` or nothing; 1 to 30 digits, perhaps with one point before,
-/// among or behind them; perhaps `e` or `E`, a sign or none, and one to three digits; spaces and tabs. It
+/// among or after them; perhaps `e` or `E`, a sign or none, and one to three digits; spaces and tabs. It
 /// has at most 64 bytes. With `Extra::Round` the nearest whole number is taken, and of two that are as
 /// near the one further from 0. It takes no memory.
 ///
@@ -53,7 +53,7 @@ pub fn scaled(text: &[u8], d: u32, extra: Extra, most: i64) -> Result<i64, NumFa
     ensures refused { IfErr result (Refuses text.now d extra most) }
     ensures only { (answer : Result ℤ NumFault) → Reads text.now d extra most answer → result ≡ answer }
 {
-    // The law behind `only`; it does nothing.
+    // The law of `only`; it does nothing.
     one_answer();
     signed_size(text, d, extra, most)
 }

@@ -1,6 +1,7 @@
 -- What the entries of a table are known to be: each number within the limits of its key.
-use Rattle.std.proofs.Common.{◌≡◌, ℕ, ◌^◌, ◌≤◌, ℤ, pos, neg_ℤ, ◌≤ℤ◌, true, false, if◌then◌else◌, List, [], ◌∷◌, Option, Some, None, unsigned_abs, ◌∙◌, arith, w64, to_z, of_z, FitsSigned}
+use Rattle.std.proofs.Common.{◌≡◌, ℕ, ◌^◌, ℤ, pos, neg_ℤ, ◌≤ℤ◌, true, false, if◌then◌else◌, List, [], ◌∷◌, Option, Some, None, ◌∙◌, arith, w64, to_z, of_z, FitsSigned}
 use Rattle.std.proofs.lemmas.Int.{ints, to_z-of_z}
+use Rattle.words.proofs.Products.{size_within}
 use Rattle.fix_point.specs.declared.rate.Rate.{Rate}
 use Rattle.rule_keys.specs.declared.key.KeyName.{KeyName}
 use Rattle.rule_keys.specs.declared.key.KeyName.TheVariants.{Decimals, Form, Separator, Extra, Hold, Min, Max, Per, Window, Most, Over, From, To, Weight}
@@ -61,12 +62,9 @@ pub record RateLimits (entries : Entries) : Type 0 where
   pub max : (neg_ℤ (pos (10 ^ 15)) ≤ℤ number_at Max entries) × (number_at Max entries ≤ℤ pos (10 ^ 15))
   pub per : (pos 1 ≤ℤ number_at Per entries) × (number_at Per entries ≤ℤ pos (10 ^ 7))
 
-pub size_within : (most : ℕ) (z : ℤ) → neg_ℤ (pos most) ≤ℤ z → z ≤ℤ pos most → unsigned_abs z ≤ most
-size_within most z least greatest = omega (arith, ints)
-
 pub is_rate : (z per : ℤ) (rate : Rate) → (neg_ℤ (pos (10 ^ 15)) ≤ℤ z) × (z ≤ℤ pos (10 ^ 15)) → (pos 1 ≤ℤ per) × (per ≤ℤ pos (10 ^ 7)) → z ≡ rate.millionths → per ≡ pos rate.per → IsRate rate
 is_rate z per rate limits seconds is_z is_per = record {
-  size = rw (← is_z) (size_within (10 ^ 15) z limits.0 limits.1);
+  size = rw (← is_z) (size_within z (10 ^ 15) limits.0 limits.1);
   per_least = omega (arith, ints);
   per_most = omega (arith, ints);
 }

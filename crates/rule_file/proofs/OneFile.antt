@@ -1,5 +1,6 @@
 -- A rule file has one answer.
 use Rattle.std.proofs.Common.{◌≡◌, ◌⊎◌, ℕ, ◌+◌, List, [], ◌∷◌, Option, Some, None, Result, Ok, Err, inl, inr, sym, ap, ◌∙◌, subst, arith}
+use Rattle.words.proofs.Answers.{HasOne, value_or_cause, one_cause, one_good}
 use Rattle.toml.specs.Data.{Data, string, integer, float, boolean, datetime, array, table, Members, get_member}
 use Rattle.time_text.specs.declared.form.TimeForm.TheVariants.{Sec}
 use Rattle.rule_keys.specs.declared.cause.KeyCause.{KeyCause}
@@ -20,19 +21,6 @@ use Rattle.rule_file.proofs.OneRule.{one_rules}
 -- what is proved of tables
 abbrev pub TablesAreOne : Type 0
 TablesAreOne = (scale : Scale) (kind : TableKind) (given : Members) (one other : Result Entries KeyCause) → Reads scale kind given one → Reads scale kind given other → one ≡ other
-
--- there is one answer at most
-abbrev pub HasOne : {A E : Type 0} → (Result A E → Type 0) → Type 0
-HasOne {A = A} {E = E} R = (one other : Result A E) → R one → R other → one ≡ other
-
-value_or_cause : {A E : Type 0} (R : Result A E → Type 0) → HasOne R → (one : A) (found : E) → R (Ok one) → R (Err found) → ⊥
-value_or_cause R same one found p q = let e = same (Ok one) (Err found) p q in absurd cc
-
-one_cause : {A E : Type 0} (R : Result A E → Type 0) → HasOne R → (found other : E) → R (Err found) → R (Err other) → found ≡ other
-one_cause R same found other p q = let e = same (Err found) (Err other) p q in cc
-
-one_good : {A E : Type 0} (R : Result A E → Type 0) → HasOne R → (one other : A) → R (Ok one) → R (Ok other) → one ≡ other
-one_good R same one other p q = let e = same (Ok one) (Ok other) p q in cc
 
 -- ---- the rules one after the other
 

@@ -1,5 +1,5 @@
 -- What is read at a key is of the key's kind, so that the reach of a rate can be reckoned.
-use Rattle.std.proofs.Common.{◌≡◌, ℕ, zero, suc, ◌-◌, ◌*◌, ◌^◌, ◌<◌, ◌≤◌, ℤ, pos, negsuc, neg_ℤ, ◌≤ℤ◌, Bool, true, false, List, [], ◌∷◌, length, Ok, Option, Some, None, unsigned_abs, refl, arith, rules, if◌then◌else◌}
+use Rattle.std.proofs.Common.{◌≡◌, ℕ, zero, suc, ◌-◌, ◌*◌, ◌^◌, ◌<◌, ◌≤◌, ℤ, pos, neg_ℤ, ◌≤ℤ◌, Bool, true, false, List, [], ◌∷◌, length, Ok, Option, Some, None, unsigned_abs, refl, arith, rules, if◌then◌else◌}
 use Rattle.std.proofs.lemmas.Int.{ints}
 use Rattle.std.specs.Fmt.{signed_decimal}
 use Rattle.std.specs.List.{AllByRecursion}
@@ -10,6 +10,7 @@ use Rattle.time_text.specs.Ticks.{Spells}
 use Rattle.time_text.specs.Trimmed.{trimmed}
 use Rattle.time_text.specs.declared.form.TimeForm.{TimeForm}
 use Rattle.time_text.specs.declared.form.TimeForm.TheVariants.{Sec, Milli, Micro, Nano, Instant, Civil}
+use Rattle.words.proofs.Products.{within_size, size_within}
 use Rattle.toml.specs.Data.{Data, string, integer, float, boolean, datetime, array, table, Members}
 use Rattle.rule_keys.specs.declared.key.TableKind.{TableKind}
 use Rattle.rule_keys.specs.declared.key.TableKind.TheVariants as kind_of
@@ -28,14 +29,6 @@ use Rattle.rule_keys.specs.Table.{ReadsAbsent, ReadsFound, ReadsKeys}
 use Rattle.rule_keys.specs.Values.{IsWordAt, ReadsWhole, ReadsScaled, ReadsMoment, ReadsWord, ReadsName, ReadsValue, ReadsInteger}
 use Rattle.rule_keys.specs.Within.{HasSmallNumbers}
 use Rattle.rule_keys.specs.Words.{words}
-
-pub within_size : (z : ℤ) (n : ℕ) → unsigned_abs z ≤ n → (neg_ℤ (pos n) ≤ℤ z) × (z ≤ℤ pos n)
-within_size (pos a) n small = (omega (arith, ints), omega (arith, ints))
-within_size (negsuc a) n small = (omega (arith, ints), omega (arith, ints))
-
-pub size_within : (z : ℤ) (n : ℕ) → neg_ℤ (pos n) ≤ℤ z → z ≤ℤ pos n → unsigned_abs z ≤ n
-size_within (pos a) n low high = omega (arith, ints)
-size_within (negsuc a) n low high = omega (arith, ints)
 
 size_of_opposite : (n : ℕ) → unsigned_abs (neg_ℤ (pos n)) ≡ n
 size_of_opposite zero = refl

@@ -1,6 +1,7 @@
 -- A table of a rule file has one answer.
 use Rattle.std.proofs.Common.{◌≡◌, ℕ, List, [], ◌∷◌, Option, Some, None, Result, Ok, Err, inl, inr, sym, ap, ◌∙◌, subst}
 use Rattle.std.specs.List.{AllByRecursion}
+use Rattle.words.proofs.Answers.{HasOne, value_or_cause, one_cause, one_good}
 use Rattle.toml.specs.Data.{Data, Members, get_member}
 use Rattle.rule_keys.specs.declared.cause.KeyCause.{KeyCause}
 use Rattle.rule_keys.specs.declared.key.TableKind.{TableKind}
@@ -14,7 +15,7 @@ use Rattle.rule_keys.specs.Entries.{Meaning}
 use Rattle.rule_keys.specs.Keys.{keys_of, checks_of}
 use Rattle.rule_keys.specs.Words.{key_text}
 use Rattle.rule_keys.specs.Table.{ReadsAbsent, ReadsFound, ReadsKey, ReadsKeys, Passes, Fails, Checked, Reads}
-use Rattle.rule_keys.proofs.OneValue.{NumbersAreOne, TimesAreOne, HasOne, value_one}
+use Rattle.rule_keys.proofs.OneValue.{NumbersAreOne, TimesAreOne, value_one}
 
 -- ---- the keys
 
@@ -29,15 +30,6 @@ found_one numbers times scale key (Some value) = value_one numbers times scale k
 
 key_one : NumbersAreOne → TimesAreOne → (scale : Scale) (given : Members) (key : Key) → HasOne (ReadsKey scale given key)
 key_one numbers times scale given key = found_one numbers times scale key (get_member (key_text key.name) given)
-
-value_or_cause : {A : Type 0} (R : Result A KeyCause → Type 0) → HasOne R → (one : A) (found : KeyCause) → R (Ok one) → R (Err found) → ⊥
-value_or_cause R same one found p q = let e = same (Ok one) (Err found) p q in absurd cc
-
-one_cause : {A : Type 0} (R : Result A KeyCause → Type 0) → HasOne R → (found other : KeyCause) → R (Err found) → R (Err other) → found ≡ other
-one_cause R same found other p q = let e = same (Err found) (Err other) p q in cc
-
-one_good : {A : Type 0} (R : Result A KeyCause → Type 0) → HasOne R → (one other : A) → R (Ok one) → R (Ok other) → one ≡ other
-one_good R same one other p q = let e = same (Ok one) (Ok other) p q in cc
 
 same_entry : (one other : KeyName × Meaning) → one.0 ≡ other.0 → one.1 ≡ other.1 → one ≡ other
 same_entry one other names meanings = ap (λ n. (n, one.1)) names ∙ ap (λ m. (other.0, m)) meanings

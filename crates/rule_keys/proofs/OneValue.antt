@@ -2,6 +2,7 @@
 use Rattle.std.proofs.Common.{◌≡◌, ◌≢◌, ◌⊎◌, ℕ, zero, suc, ◌^◌, ◌<◌, ◌≤◌, ℤ, pos, ◌*ℤ◌, ◌≤ℤ◌, ◌<ℤ◌, List, [], ◌∷◌, length, Result, Ok, Err, codes, slice_index, unsigned_abs, inl, inr, refl, sym, ap, ◌∙◌, subst, arith}
 use Rattle.std.proofs.lemmas.Int.{ints}
 use Rattle.std.specs.Fmt.{signed_decimal}
+use Rattle.words.proofs.Answers.{HasOne}
 use Rattle.toml.specs.Data.{Data, string, integer, float, boolean, datetime, array, table}
 use Rattle.fix_point.specs.Scaled as Scaled
 use Rattle.fix_point.specs.declared.scale.NumFault.{NumFault}
@@ -28,10 +29,6 @@ NumbersAreOne = (text : List ℕ) (d : ℕ) (extra : Extra) (most : ℤ) (one ot
 
 abbrev pub TimesAreOne : Type 0
 TimesAreOne = (form : TimeForm) (text : List ℕ) (one other : Result ℤ TimeFault) → Ticks.Reads form text one → Ticks.Reads form text other → one ≡ other
-
--- there is one answer at most
-abbrev pub HasOne : {A : Type 0} → (Result A KeyCause → Type 0) → Type 0
-HasOne {A = A} Reads = (one other : Result A KeyCause) → Reads one → Reads other → one ≡ other
 
 -- ---- answers
 

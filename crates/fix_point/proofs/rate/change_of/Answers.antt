@@ -1,6 +1,7 @@
 use Rattle.std.proofs.Common.{◌*◌, ◌^◌, pos, ◌*ℤ◌, to_z, of_z, lit<, arith}
 use Rattle.std.specs.Int.{w128}
-use Rattle.fix_point.proofs.Rates.{product_of, wide, wide_pos, power_small, size_of_product}
+use Rattle.words.proofs.Products.{size_of_product}
+use Rattle.fix_point.proofs.Rates.{product_of, wide, wide_pos, power_small}
 use Rattle.fix_point.proofs.rate.change_of.Goals as goal
 
 pub overflow_mul-result : goal.overflow_mul-result
