@@ -16,7 +16,7 @@ use Rattle.bound_graph.specs.declared.arc.Arc.{Arc}
 use Rattle.bound_graph.specs.Arcs.{arc_at}
 use Rattle.bound_graph.specs.Graph.{node_of, index_of, arc_of_bound}
 use Rattle.bound_graph.specs.Values.{value_of, RespectsArc, RespectsIfThere, RespectsArcs}
-use Rattle.bound_graph.specs.Bridge.{unpriced_arcs, NegativeCycleBlocks, NegativeCycleForbids}
+use Rattle.bound_graph.specs.Nodes.{unpriced_arcs, NegativeCycleBlocks, NegativeCycleForbids}
 use Rattle.words.proofs.Lists.{all_at, all_push, map-rotated}
 use Rattle.words.proofs.Sums.{total-rotated}
 use Rattle.bound_graph.proofs.Nodes.{place_at_index, index_of_contained}

@@ -4,7 +4,7 @@ use Rattle.std.proofs.lemmas.Bool.{eqb-true, eq-eqb, cond-true}
 use Rattle.words.proofs.Lists.{contains_later, contains_cases}
 use Rattle.bound_graph.specs.declared.arc.Arc.{Arc}
 use Rattle.bound_graph.specs.Graph.{leaving, leaving_from}
-use Rattle.bound_graph.specs.Bridge.{Leaves, LeavingExactly}
+use Rattle.bound_graph.specs.Nodes.{Leaves, LeavingExactly}
 
 -- the arc of a number, counted on from another, leaves the node
 record LeavesFrom (start : ℕ) (arcs : List Arc) (node number : ℕ) : Type 0 where

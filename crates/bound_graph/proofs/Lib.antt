@@ -1,3 +1,4 @@
+pub mod Among
 pub mod Arcs
 pub mod Cycles
 pub mod Degrees

@@ -12,13 +12,16 @@ use Rattle.screen_model.specs.Obeys.{Priced, HasEnds, Keeps, Obeys}
 use Rattle.bound_graph.specs.declared.arc.Arc.{Arc}
 use Rattle.bound_graph.specs.Arcs.{arc_at, IsBetween}
 use Rattle.bound_graph.specs.Graph.{index_of, arc_of_bound}
-use Rattle.bound_graph.specs.Values.{value_of, RespectsArc, RespectsIfThere, RespectsArcs, less_first, series_of}
-use Rattle.bound_graph.specs.Bridge.{unpriced_arcs, ArcsWithoutPrices, ValuesAtEnds, ObeyingIsRespecting, LessFirstRespects, DistancesGiveSeries}
+use Rattle.bound_graph.specs.Values.{value_of, RespectsArc, RespectsIfThere, RespectsArcs, relative_to_first, series_of}
+use Rattle.bound_graph.specs.Nodes.{unpriced_arcs, ArcsWithoutPrices, ValuesAtEnds, ObeyingIsRespecting, RelativeToFirstRespects, DistancesGiveSeries}
 use Rattle.bound_graph.proofs.Arcs.{node_below}
 
 pub without_price : ArcsWithoutPrices
-without_price places [] = refl
-without_price places (bound ∷ bounds) = ap (λ arcs. Some (arc_of_bound places bound) ∷ arcs) (without_price places bounds)
+without_price places [] free = refl
+without_price places (priced ∷ bounds) free =
+    let arc = arc_of_bound places priced.bound in
+    let here : cond (eqb priced.price 0) (Some arc) None ≡ Some arc = ap (λ (price : ℕ). cond (eqb price 0) (Some arc) None) free.0 in
+    ap (λ (o : Option Arc). o ∷ unpriced_arcs places bounds) here ∙ ap (λ (arcs : List (Option Arc)). Some arc ∷ arcs) (without_price places bounds free.1)
 
 -- ---- one end, one bound
 
@@ -86,20 +89,20 @@ value_less first [] node h = absurd (omega arith)
 value_less first (value ∷ values) zero h = refl
 value_less first (value ∷ values) (suc node) h = value_less first values node (omega arith)
 
-pub less_first_respects_arc : (values : List ℤ) (arc : Arc) → IsBetween (length values) arc → RespectsArc values arc → RespectsArc (less_first values) arc
-less_first_respects_arc values arc between respects =
+pub relative_to_first_respects_arc : (values : List ℤ) (arc : Arc) → IsBetween (length values) arc → RespectsArc values arc → RespectsArc (relative_to_first values) arc
+relative_to_first_respects_arc values arc between respects =
     let first = value_of values 0 in
     omega (arith, ints, value_less first values arc.tail between.0, value_less first values arc.head between.1)
 
-less_if_there : (values : List ℤ) (arc : Option Arc) → IfSome arc (IsBetween (length values)) → RespectsIfThere values arc → RespectsIfThere (less_first values) arc
+less_if_there : (values : List ℤ) (arc : Option Arc) → IfSome arc (IsBetween (length values)) → RespectsIfThere values arc → RespectsIfThere (relative_to_first values) arc
 less_if_there values None between respects = tt
-less_if_there values (Some arc) between respects = less_first_respects_arc values arc between respects
+less_if_there values (Some arc) between respects = relative_to_first_respects_arc values arc between respects
 
-pub less_respects : LessFirstRespects
-less_respects values arcs between respects i = less_if_there values (arc_at arcs i) (between i) (respects i)
+pub relative_respects : RelativeToFirstRespects
+relative_respects values arcs between respects i = less_if_there values (arc_at arcs i) (between i) (respects i)
 
 -- the series of distances, with 0 before it
-pub zero_and_series : (distances : List ℤ) (count : ℕ) → length distances ≡ suc count → less_first distances ≡ pos 0 ∷ series_of distances
+pub zero_and_series : (distances : List ℤ) (count : ℕ) → length distances ≡ suc count → relative_to_first distances ≡ pos 0 ∷ series_of distances
 zero_and_series [] count e = absurd (omega arith)
 zero_and_series (d ∷ distances) count e =
     let none : d -ℤ d ≡ pos 0 = omega (arith, ints) in
@@ -111,6 +114,7 @@ length_series (d ∷ distances) count e = length-map distances (λ value. value 
 
 pub series_obeys : DistancesGiveSeries
 series_obeys places distances bounds full ends respects =
-    let less = less_respects distances (unpriced_arcs places bounds) (unpriced_between places bounds (length distances) full ends) respects in
+    let less = relative_respects distances (unpriced_arcs places bounds) (unpriced_between places bounds (length distances) full ends) respects in
     let from_zero = subst (λ values. RespectsArcs values (unpriced_arcs places bounds)) (zero_and_series distances (length places) full) less in
-    respected places (series_of distances) bounds (length_series distances (length places) full) from_zero
+    let size = length_series distances (length places) full in
+    (size, respected places (series_of distances) bounds size from_zero)

@@ -1,10 +1,14 @@
 -- To be believed: numbered arcs, of which some may not be there now.
-use Rattle.std.specs.Prelude.{ℕ, ◌*◌, ◌^◌, ◌<◌, ◌≤◌, List, Option, None, get_or, unsigned_abs}
+use Rattle.std.specs.Prelude.{◌≡◌, ℕ, ◌*◌, ◌^◌, ◌<◌, ◌≤◌, List, Option, None, Some, get_or, unsigned_abs, IfSome}
 use Rattle.bound_graph.specs.declared.arc.Arc.{Arc}
 
 -- the arc of a number, if it is there
 abbrev pub arc_at : List (Option Arc) → ℕ → Option Arc
 arc_at arcs i = get_or arcs i None
+
+-- each arc that is there is also among the others, under the number that is given for its own
+abbrev pub AreAmong : List (Option Arc) → List (Option Arc) → (ℕ → ℕ) → Type 0
+AreAmong arcs others number = (i : ℕ) → IfSome (arc_at arcs i) (λ arc. arc_at others (number i) ≡ Some arc)
 
 -- both ends are among the nodes
 abbrev pub IsBetween : ℕ → Arc → Type 0

@@ -1,7 +1,7 @@
 pub mod Arcs
-pub mod Bridge
 pub mod Cycle
 pub mod Graph
 pub mod Index
+pub mod Nodes
 pub mod Star
 pub mod Values

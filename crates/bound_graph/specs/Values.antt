@@ -20,9 +20,9 @@ abbrev pub RespectsArcs : List ℤ → List (Option Arc) → Type 0
 RespectsArcs values arcs = (i : ℕ) → RespectsIfThere values (arc_at arcs i)
 
 -- the values, each less the one at node 0
-abbrev pub less_first : List ℤ → List ℤ
-less_first values = map (λ value. value -ℤ value_of values 0) values
+abbrev pub relative_to_first : List ℤ → List ℤ
+relative_to_first values = map (λ value. value -ℤ value_of values 0) values
 
 -- the series that distances give: for each reading the distance of its node, less that of node 0
 abbrev pub series_of : List ℤ → List ℤ
-series_of distances = drop 1 (less_first distances)
+series_of distances = drop 1 (relative_to_first distances)

@@ -78,7 +78,7 @@ fn comes_before(place: Place, other: Place) -> bool
     place.row < other.row || (place.row == other.row && place.col < other.col)
 }
 
-/// Where the places of each row start, up to the row behind the last one, where all have ended.
+/// Where the places of each row start, up to the row after the last one, where all have ended.
 fn row_starts(alloc: Global, places: &[Place]) -> Result<Vec<u32>, AllocError>
     requires rising { IsRising places.now (length places.now) }
     requires few { length places.now + 1 < 2 ^ 32 }

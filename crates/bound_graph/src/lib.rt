@@ -11,8 +11,9 @@ mod table;
 pub use arc::{Arc, ArcList, ArcTable};
 pub use graph::Graph;
 pub use laws::{
-    arcs_without_prices, distances_give_series, leaving_exactly, less_first_respects,
-    negative_cycle_blocks, negative_cycle_forbids, obeying_is_respecting, values_at_ends,
+    arcs_of_bounds_are_arcs, arcs_without_prices, distances_give_series, leaving_exactly,
+    negative_cycle_among, negative_cycle_blocks, negative_cycle_forbids, obeying_is_respecting,
+    relative_to_first_respects, respects_those_among, values_at_ends,
 };
 pub use table::arcs_of_bounds;
 

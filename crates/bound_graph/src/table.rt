@@ -17,8 +17,8 @@ use std::alloc::{AllocError, Global};
 /// becomes the arc of its own number, from its first end to its second, at the cost of its limit.
 ///
 /// Where places rise, by row and then by column, their nodes are found by starts of rows, in time linear in places and
-/// bounds but for a search among the places of a row. Other places stand in std's hash map meanwhile, and also those
-/// that leave seven of eight rows out; that is linear time unless the places were chosen to collide in the map. Fails
+/// bounds but for a search among the places of a row. Other places, and rising ones that use fewer than one row in
+/// eight, are looked up in a hash map; that is linear time unless the places were chosen to collide in the map. Fails
 /// only where memory runs out.
 pub fn arcs_of_bounds(
     alloc: Global,

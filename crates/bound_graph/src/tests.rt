@@ -4,9 +4,10 @@ ghost use Rattle.words.specs.Lists.{Distinct};
 ghost use Rattle.screen_model.specs.Obeys.{HasEnds};
 
 use crate::{
-    Arc, ArcList, ArcTable, Graph, arcs_of_bounds, arcs_without_prices, distances_give_series,
-    leaving_exactly, less_first_respects, negative_cycle_blocks, negative_cycle_forbids,
-    obeying_is_respecting, values_at_ends,
+    Arc, ArcList, ArcTable, Graph, arcs_of_bounds, arcs_of_bounds_are_arcs, arcs_without_prices,
+    distances_give_series, leaving_exactly, negative_cycle_among, negative_cycle_blocks,
+    negative_cycle_forbids, obeying_is_respecting, relative_to_first_respects,
+    respects_those_among, values_at_ends,
 };
 use screen_model::{Bound, BoundList, BoundName, End, Place, Places, Side};
 use std::alloc::{AllocError, Global};
@@ -216,11 +217,14 @@ fn many_bounds(rt: HostRuntime) -> Result<(), Fail> {
         graph.out_arcs(100_000),
         [99_999, 199_999, 299_999, 399_999].as_slice()
     );
+    arcs_of_bounds_are_arcs();
     arcs_without_prices();
     values_at_ends();
     obeying_is_respecting();
-    less_first_respects();
+    relative_to_first_respects();
     distances_give_series();
+    negative_cycle_among();
+    respects_those_among();
     negative_cycle_blocks();
     negative_cycle_forbids();
     leaving_exactly();
