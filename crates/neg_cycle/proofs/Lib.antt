@@ -5,8 +5,9 @@ pub mod ForestMark
 pub mod ForestRanking
 pub mod ForestTurn
 pub mod ForestWalk
+pub mod OnlyOne
 pub mod Ranked
 pub mod Relaxing
 pub mod Sweeping
 pub mod Writing
-pub mod Turning
+pub mod Transposing

@@ -1,4 +1,4 @@
--- Arcs turned round.
+-- Arcs transposed.
 use Rattle.std.proofs.Common.{◌≡◌, ℕ, zero, suc, ℤ, pos, ◌-ℤ◌, List, [], ◌∷◌, length, Option, None, Some, refl, sym, ap, ◌∙◌, subst, arith}
 use Rattle.std.specs.Prelude.{option_map}
 use Rattle.std.proofs.lemmas.Int.{ints}
@@ -7,12 +7,12 @@ use Rattle.bound_graph.specs.declared.arc.Arc.{Arc}
 use Rattle.bound_graph.specs.Arcs.{arc_at}
 use Rattle.bound_graph.specs.Values.{value_of, RespectsIfThere, RespectsArcs}
 use Rattle.neg_cycle.specs.Distances.{AreAtMost}
-use Rattle.neg_cycle.specs.Turned.{turned, all_turned, negated, TurnedIsNegated, LeastByTurning}
+use Rattle.neg_cycle.specs.Transposed.{transposed, all_transposed, negated, TransposedIsNegated, LeastByTransposing}
 
-pub turned_at : (arcs : List (Option Arc)) (i : ℕ) → arc_at (all_turned arcs) i ≡ option_map turned (arc_at arcs i)
-turned_at [] i = refl
-turned_at (arc ∷ arcs) zero = refl
-turned_at (arc ∷ arcs) (suc i) = turned_at arcs i
+pub transposed_at : (arcs : List (Option Arc)) (i : ℕ) → arc_at (all_transposed arcs) i ≡ option_map transposed (arc_at arcs i)
+transposed_at [] i = refl
+transposed_at (arc ∷ arcs) zero = refl
+transposed_at (arc ∷ arcs) (suc i) = transposed_at arcs i
 
 negated_at : (values : List ℤ) (node : ℕ) → value_of (negated values) node ≡ pos 0 -ℤ value_of values node
 negated_at [] node = refl
@@ -28,18 +28,18 @@ negated_twice (value ∷ values) =
     let same : pos 0 -ℤ (pos 0 -ℤ value) ≡ value = omega (arith, ints) in
     ap (λ (v : ℤ). v ∷ negated (negated values)) same ∙ ap (λ (l : List ℤ). value ∷ l) (negated_twice values)
 
-turned_if_there : (values : List ℤ) (arc : Option Arc) → RespectsIfThere values arc → RespectsIfThere (negated values) (option_map turned arc)
-turned_if_there values None respects = tt
-turned_if_there values (Some arc) respects = omega (arith, ints, negated_at values arc.tail, negated_at values arc.head)
+transposed_if_there : (values : List ℤ) (arc : Option Arc) → RespectsIfThere values arc → RespectsIfThere (negated values) (option_map transposed arc)
+transposed_if_there values None respects = tt
+transposed_if_there values (Some arc) respects = omega (arith, ints, negated_at values arc.tail, negated_at values arc.head)
 
-there_if_turned : (values : List ℤ) (arc : Option Arc) → RespectsIfThere (negated values) (option_map turned arc) → RespectsIfThere values arc
-there_if_turned values None respects = tt
-there_if_turned values (Some arc) respects = omega (arith, ints, negated_at values arc.tail, negated_at values arc.head)
+there_if_transposed : (values : List ℤ) (arc : Option Arc) → RespectsIfThere (negated values) (option_map transposed arc) → RespectsIfThere values arc
+there_if_transposed values None respects = tt
+there_if_transposed values (Some arc) respects = omega (arith, ints, negated_at values arc.tail, negated_at values arc.head)
 
-pub is_negated : TurnedIsNegated
+pub is_negated : TransposedIsNegated
 is_negated arcs values = (
-  λ respects i. subst (RespectsIfThere (negated values)) (sym (turned_at arcs i)) (turned_if_there values (arc_at arcs i) (respects i)),
-  λ respects i. there_if_turned values (arc_at arcs i) (subst (RespectsIfThere (negated values)) (turned_at arcs i) (respects i)),
+  λ respects i. subst (RespectsIfThere (negated values)) (sym (transposed_at arcs i)) (transposed_if_there values (arc_at arcs i) (respects i)),
+  λ respects i. there_if_transposed values (arc_at arcs i) (subst (RespectsIfThere (negated values)) (transposed_at arcs i) (respects i)),
 )
 
 at_most_negated : (lows highs : List ℤ) → AreAtMost lows highs → AreAtMost (negated highs) (negated lows)
@@ -50,10 +50,10 @@ at_most_negated lows highs below = record {
       omega (arith, ints, negated_at lows node, negated_at highs node);
 }
 
-pub least : LeastByTurning
+pub least : LeastByTransposing
 least arcs starts distances greatest =
     let twice = negated_twice distances in
-    let respects = (is_negated arcs (negated distances)).1 (subst (λ values. RespectsArcs values (all_turned arcs)) (sym twice) greatest.respects) in
+    let respects = (is_negated arcs (negated distances)).1 (subst (λ values. RespectsArcs values (all_transposed arcs)) (sym twice) greatest.respects) in
     record {
       above = subst (λ values. AreAtMost values (negated distances)) (negated_twice starts) (at_most_negated distances (negated starts) greatest.below);
       respects = respects;

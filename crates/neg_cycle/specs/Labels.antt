@@ -39,7 +39,7 @@ pub record IsLabelling (arcs : List (Option Arc)) (bound : ℕ) (distances : Lis
 abbrev pub AreLabels : List (Option Arc) → ℕ → Labels → Type 0
 AreLabels arcs bound labels = IsLabelling arcs bound labels.distances.items labels.parents.items labels.ranks.items
 
--- The new distances are at most the old ones, and no list that obeys and is at most the old ones is anywhere above them.
+-- The new distances are at most the old ones, and no list that respects the arcs and is at most the old ones is anywhere above them.
 pub record Lowers (arcs : List (Option Arc)) (old new : List ℤ) : Type 0 where
   pub below : AreAtMost new old
   pub keeps : (other : List ℤ) → AreAtMost other old → RespectsArcs other arcs → AreAtMost other new

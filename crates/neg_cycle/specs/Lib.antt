@@ -2,4 +2,4 @@ pub mod Distances
 pub mod Forest
 pub mod ForestWalk
 pub mod Labels
-pub mod Turned
+pub mod Transposed

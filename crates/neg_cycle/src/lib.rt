@@ -8,12 +8,14 @@
 mod cycle;
 mod forest;
 mod labels;
+mod laws;
 mod room;
 mod sweep;
 #[cfg(test)]
 mod tests;
-mod turned;
+mod transposed;
 
+pub use laws::{greatest_is_one, least_by_transposing, least_is_one, transposed_is_negated};
 pub use room::Room;
 pub use sweep::{Settled, settle};
-pub use turned::{Turned, least_by_turning, turned_is_negated};
+pub use transposed::Transposed;

@@ -1,7 +1,6 @@
 //! Distances settled over a list of arcs.
 ghost use Rattle.std.specs.Prelude.{◌≡◌, ◌<◌, ◌≤◌, ◌+◌, ◌*◌, ◌^◌, ℕ, ℤ, ◌<ℤ◌, true, false, List, Option, [], length, unsigned_abs, All, MatchOption};
 ghost use Rattle.words.specs.Lists.{total};
-ghost use Rattle.bound_graph.specs.declared.arc.Arc.{Arc};
 ghost use Rattle.bound_graph.specs.Values.{RespectsArcs};
 ghost use Rattle.neg_cycle.specs.Distances.{IsGreatest};
 ghost use Rattle.neg_cycle.specs.Labels.{AreLabels, Fell, HoldsCycle, Lowers};

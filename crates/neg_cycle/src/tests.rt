@@ -5,7 +5,10 @@ ghost use Rattle.bound_graph.specs.Arcs.{IsArc};
 mod large;
 
 use crate::forest::{Parent, rank_or_cycle};
-use crate::{Room, Settled, Turned, least_by_turning, settle, turned_is_negated};
+use crate::{
+    Room, Settled, Transposed, greatest_is_one, least_by_transposing, least_is_one, settle,
+    transposed_is_negated,
+};
 use bound_graph::{Arc, ArcList, ArcTable, Graph};
 use screen_model::{Bound, BoundList, BoundName, End, Place, Places, Side};
 use std::alloc::{AllocError, Global};
@@ -177,13 +180,13 @@ fn range(rt: &impl AllocGlobal) -> Result<Graph, AllocError>
 }
 
 #[test]
-fn graphs_settle_and_give_the_least_turned_round(rt: HostRuntime) -> Result<(), Fail> {
+fn graphs_settle_and_give_the_least_transposed(rt: HostRuntime) -> Result<(), Fail> {
     let graph = range(&rt)?;
     let (outcome, distances, _) = settled(rt.alloc(), &graph, &[0, 9])?;
     assert_eq!(rt; outcome, Settled::Greatest);
     assert_eq!(rt; distances.as_slice(), [0, 5].as_slice());
-    // The least are the negated distances of the arcs turned round, so the reading is 3.
-    let (outcome, distances, _) = settled(rt.alloc(), &Turned { arcs: &graph }, &[0, 0])?;
+    // The least are the negated distances of the transposed arcs, so the reading is 3.
+    let (outcome, distances, _) = settled(rt.alloc(), &Transposed { arcs: &graph }, &[0, 0])?;
     assert_eq!(rt; outcome, Settled::Greatest);
     assert_eq!(rt; distances.as_slice(), [0, -3].as_slice());
     let mut arcs = ArcTable::new(rt.alloc());
@@ -200,8 +203,10 @@ fn graphs_settle_and_give_the_least_turned_round(rt: HostRuntime) -> Result<(), 
     let graph = Graph::from_arcs(rt.alloc(), 2, arcs)?;
     let (outcome, _, cycle) = settled(rt.alloc(), &graph, &[0, 0])?;
     assert_eq!(rt; (outcome, cycle.len()), (Settled::Cycle, 2));
-    turned_is_negated();
-    least_by_turning();
+    transposed_is_negated();
+    least_by_transposing();
+    greatest_is_one();
+    least_is_one();
     Ok(())
 }
 

@@ -1,5 +1,5 @@
-use Rattle.neg_cycle.proofs.Turning.{least}
-use Rattle.neg_cycle.proofs.turned.least_by_turning.Goals as goal
+use Rattle.neg_cycle.proofs.Transposing.{least}
+use Rattle.neg_cycle.proofs.laws.least_by_transposing.Goals as goal
 
 pub returns : goal.returns
 returns c = least
