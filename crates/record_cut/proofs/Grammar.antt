@@ -1,6 +1,7 @@
 -- The grammar, a byte at a time from the front.
-use Rattle.std.proofs.Common.{◌≡◌, ◌≢◌, ℕ, ◌==◌, ◌||◌, Bool, true, false, IsTrue, List, [], ◌∷◌, Some, None, refl, sym, ap, ◌∙◌, ne_eqb, eq-eqb}
+use Rattle.std.proofs.Common.{◌≡◌, ◌≢◌, ℕ, ◌==◌, true, false, IsTrue, List, [], ◌∷◌, Some, None, refl, sym, ap, ◌∙◌, ne_eqb, eq-eqb}
 use Rattle.std.proofs.lemmas.Bool.{both_ways}
+use Rattle.words.proofs.Texts.{or_right}
 use Rattle.record_cut.specs.Bytes.{is_separator, after_line_feed, after_line_break}
 use Rattle.record_cut.specs.Field.{led_by, led_if_any, quoted, ends_plain, plain, field_at, Next, Line, End, LastCr, Wrong, after_field}
 
@@ -37,18 +38,14 @@ plain-go sep byte more e = rw e refl
 pub plain-sep : (sep : ℕ) (more : List ℕ) → plain sep (sep ∷ more) ≡ record { value = []; rest = sep ∷ more }
 plain-sep sep more = plain-stop sep sep more (rw (eq-eqb sep sep refl) refl)
 
-or-true : (b : Bool) → (b || true) ≡ true
-or-true true = refl
-or-true false = refl
-
 pub plain-quote : (sep : ℕ) (more : List ℕ) → plain sep (34 ∷ more) ≡ record { value = []; rest = 34 ∷ more }
-plain-quote sep more = plain-stop sep 34 more (rw (or-true (34 == sep)) refl)
+plain-quote sep more = plain-stop sep 34 more (rw (or_right (34 == sep) true refl) refl)
 
 pub plain-line_feed : (sep : ℕ) (more : List ℕ) → plain sep (10 ∷ more) ≡ record { value = []; rest = 10 ∷ more }
-plain-line_feed sep more = plain-stop sep 10 more (or-true _)
+plain-line_feed sep more = plain-stop sep 10 more (or_right _ true refl)
 
 pub plain-line_break : (sep : ℕ) (more : List ℕ) → plain sep (13 ∷ 10 ∷ more) ≡ record { value = []; rest = 13 ∷ 10 ∷ more }
-plain-line_break sep more = plain-stop sep 13 (10 ∷ more) (or-true _)
+plain-line_break sep more = plain-stop sep 13 (10 ∷ more) (or_right _ true refl)
 
 pub plain-cr : (sep byte : ℕ) (more : List ℕ) → 13 ≢ sep → byte ≢ 10 → plain sep (13 ∷ byte ∷ more) ≡ led_by (13 ∷ []) (plain sep (byte ∷ more))
 plain-cr sep byte more h k = plain-go sep 13 (byte ∷ more) (rw (ne_eqb 13 sep h, ne_eqb byte 10 k) refl)

@@ -2,6 +2,7 @@
 use Rattle.std.proofs.Common.{◌≡◌, ◌≢◌, inl, inr, ℕ, ◌-◌, ◌<◌, ◌≤◌, ◌==◌, ◌||◌, ◌&&◌, nat_lt, Bool, true, false, IsTrue, List, [], ◌∷◌, ◌++◌, length, Some, None, refl, sym, ap, ◌∙◌, subst, arith, append_assoc, ne_eqb, eq-eqb, le-ltb, length-append}
 use Rattle.std.proofs.lemmas.Bool.Decides.{eqb_tells}
 use Rattle.std.proofs.lemmas.Bool.{both_ways, eqb-false}
+use Rattle.words.proofs.Texts.{or_right}
 use Rattle.record_cut.specs.Bytes.{is_separator, after_line_break}
 use Rattle.record_cut.specs.Field.{led_by, led_if_any, quoted, ends_plain, plain, field_at}
 use Rattle.record_cut.specs.Record.{Nothing, Whole, with_fields, record_at}
@@ -34,10 +35,6 @@ record Stops (sep byte : ℕ) : Type 0 where
   no_third : byte ≢ 191
   no_break : (rest : List ℕ) → byte ≡ sep → after_line_break (byte ∷ rest) ≡ None
 
-or-true : (b : Bool) → (b || true) ≡ true
-or-true true = refl
-or-true false = refl
-
 sep-stops : (sep : ℕ) → IsTrue (is_separator sep) → Stops sep sep
 sep-stops sep is = record {
   stops = λ rest. rw (eq-eqb sep sep refl) refl;
@@ -50,7 +47,7 @@ sep-stops sep is = record {
 
 line_feed-stops : (sep : ℕ) → IsTrue (is_separator sep) → Stops sep 10
 line_feed-stops sep is = record {
-  stops = λ rest. or-true _;
+  stops = λ rest. or_right _ true refl;
   no_quote = λ e. cc;
   no_first = λ e. cc;
   no_second = λ e. cc;

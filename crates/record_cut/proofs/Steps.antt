@@ -24,7 +24,7 @@ with_fields-twice first value (Ends Nothing) = refl
 with_fields-twice first value (Ends OpenField) = refl
 with_fields-twice first value (Ends CrAfterQuote) = refl
 
--- behind a field
+-- after a field
 
 pub closed-sep : (sep : ℕ) (draft new : Drafted) (more : List ℕ) → new.fields ≡ draft.fields ++ draft.field ∷ [] → from_closed sep draft (sep ∷ more) ≡ with_fields new.fields (record_at sep more)
 unfolding from_closed

@@ -18,7 +18,7 @@ from_plain sep draft more = with_fields draft.fields (by_field (record_at sep) s
 unfoldable pub from_quoted : ℕ → Drafted → List ℕ → RecordAt
 from_quoted sep draft more = with_fields draft.fields (by_field (record_at sep) sep (led_if_any draft.field (quoted more)))
 
--- the draft's field is behind its closing quote
+-- the closing quote of the draft's field was read
 unfoldable pub from_closed : ℕ → Drafted → List ℕ → RecordAt
 from_closed sep draft more = with_fields draft.fields (by_what_follows (record_at sep) draft.field (after_field sep more))
 

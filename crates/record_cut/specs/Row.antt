@@ -26,7 +26,7 @@ doubled (byte ∷ rest) = doubled_if_quote byte ++ doubled rest
 abbrev pub field_text : Bool → List ℕ → List ℕ
 field_text in_quotes field = if in_quotes then quote ∷ doubled field ++ quote ∷ [] else field
 
--- the fields after the first, each behind a separator, and the line feed
+-- the fields after the first, each after a separator, and the line feed
 unfoldable pub text_of_others : ℕ → List (List ℕ) → List ℕ
 text_of_others sep [] = line_feed ∷ []
 text_of_others sep (field ∷ fields) = sep ∷ field_text (holds_special sep field) field ++ text_of_others sep fields

@@ -73,7 +73,7 @@ impl Cutter {
     /// record's fields. After an answer without a refusal the cutter is as new.
     ///
     /// `OpenQuote` comes where a quoted field is not closed, `BadQuote` where the last byte is a carriage
-    /// return behind a closing quote.
+    /// return after a closing quote.
     pub fn finish(&mut self) -> Result<Option<Fields>, CutFault>
         ensures ends { (sep : ℕ) (bytes : List ℕ)
             → StandsFor self.old sep bytes → Ends sep bytes result self.new }

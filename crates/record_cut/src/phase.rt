@@ -13,7 +13,7 @@ pub(crate) enum Place {
     Quoted,
     /// In a quoted field, after a quote that closes it or is one of two.
     QuoteInQuoted,
-    /// After a carriage return behind a closing quote.
+    /// After a carriage return that follows a closing quote.
     ClosedCr,
 }
 

@@ -30,7 +30,7 @@ fn first_in_quotes(field: &[u8], width: u32, sep: u8) -> bool
     holds_special(field, sep) || begins_with_mark(field) || (field.is_empty() && width == 1)
 }
 
-/// Adds the fields after the first, each behind a separator, and the line feed.
+/// Adds the fields after the first, each after a separator, and the line feed.
 fn push_others(text: &mut Vec<u8>, fields: &Fields, sep: u8) -> Result<(), AllocError>
     requires { 0 < length fields.now }
     ensures { OnOk result (text.new.items ≡ text.old.items ++ text_of_others sep (drop 1 fields.now)) }

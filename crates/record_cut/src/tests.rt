@@ -6,7 +6,7 @@ use std::alloc::{AllocError, Global};
 use std::process::Abort;
 use std::test::Fail;
 
-/// Adds the fields in brackets, behind the text that is given.
+/// Adds the fields in brackets, after the text that is given.
 fn show(seen: &mut Vec<u8>, before: &[u8], fields: &Fields) -> Result<(), AllocError> {
     seen.extend_from_slice(before)?;
     for i in 0..fields.width() {
@@ -17,7 +17,7 @@ fn show(seen: &mut Vec<u8>, before: &[u8], fields: &Fields) -> Result<(), AllocE
     Ok(())
 }
 
-/// What a text gives: its records, each behind a bar, what its end leaves, behind two, and the refusal
+/// What a text gives: its records, each after a bar, what its end leaves, after two, and the refusal
 /// with the number of bytes before it.
 fn cut(
     rt: &impl Abort,

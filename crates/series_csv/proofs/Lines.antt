@@ -5,6 +5,7 @@ use Rattle.std.specs.Prelude.{codes, decimal}
 use Rattle.std.specs.Fmt.{signed_decimal}
 use Rattle.std.specs.List.{AllByRecursion}
 use Rattle.std.proofs.lemmas.List.{length_push, length-append, append-nil, append_assoc as assoc}
+use Rattle.words.proofs.Lists.{all_of_append, all_push}
 use Rattle.series_csv.specs.declared.table.Row.{Row}
 use Rattle.series_csv.specs.Rows.{AreRows, IsSmall, Rises, values}
 use Rattle.series_csv.specs.Text.{row_text, rows_text}
@@ -30,14 +31,6 @@ pub record HasNext (rows : List Row) (rest : List ℕ) (all : List Row) : Type 0
   pub joined : all ≡ rows ++ row ∷ more
   pub line : IsRowThen rest row (rows_text more (values more))
 
-small_at : (rows : List Row) (row : Row) (more : List Row) → AllByRecursion IsSmall (rows ++ row ∷ more) → IsSmall row
-small_at [] row more all = all.0
-small_at (x ∷ rows) row more all = small_at rows row more all.1
-
-small_push : (rows : List Row) (row : Row) → AllByRecursion IsSmall rows → IsSmall row → AllByRecursion IsSmall (rows ++ row ∷ [])
-small_push [] row all small = (small, tt)
-small_push (x ∷ rows) row all small = (all.0, small_push rows row all.1 small)
-
 lines_push : (rows : List Row) (row : Row) → rows_text (rows ++ row ∷ []) (values (rows ++ row ∷ [])) ≡ rows_text rows (values rows) ++ row_text row row.value
 lines_push [] row = append-nil (row_text row row.value)
 lines_push (x ∷ rows) row = ap (λ s. row_text x x.value ++ s) (lines_push rows row) ∙ sym (assoc (row_text x x.value) (rows_text rows (values rows)) (row_text row row.value))
@@ -51,7 +44,7 @@ next_from lines rows rest all (row ∷ more) are some joined text = record {
   row = row;
   more = more;
   joined = joined;
-  line = record { small = small_at rows row more (subst (λ r. AllByRecursion IsSmall r) joined are.each.small); text = text };
+  line = record { small = (all_of_append IsSmall rows (row ∷ more) (subst (λ r. AllByRecursion IsSmall r) joined are.each.small)).1.0; text = text };
 }
 
 pub next : (lines : List ℕ) (rows : List Row) (rest : List ℕ) (all : List Row) → IsReadSoFar lines rows rest → AreLinesOf lines all → rest ≢ [] → HasNext rows rest all
@@ -85,7 +78,7 @@ pub one_more : (lines : List ℕ) (rows : List Row) (rest : List ℕ) (row : Row
 one_more lines rows rest row after so_far line only some room rises = record {
   each = record {
     few = omega (arith, so_far.each.few, room, length_push rows row);
-    small = small_push rows row so_far.each.small line.small;
+    small = all_push IsSmall rows row so_far.each.small line.small;
     rise = rises;
   };
   text = so_far.text ∙ ap (λ s. rows_text rows (values rows) ++ s) line.text ∙ sym (assoc (rows_text rows (values rows)) (row_text row row.value) after) ∙ ap (λ s. s ++ after) (sym (lines_push rows row));

@@ -14,7 +14,7 @@ const LONGEST: usize = 64;
 /// Where the `T` stands between a date and a time.
 const DESIGNATOR: usize = 10;
 
-/// The text as it is read, with other bytes behind it.
+/// The text as it is read, with other bytes after it.
 fn designated(text: &[u8]) -> Result<[u8; LONGEST], TimeFault>
     ensures read { IfOk result (λ room. take (length text.now) room ≡ with_designator text.now) }
     ensures short { IfOk result (λ room. length text.now ≤ 64) }

@@ -36,7 +36,7 @@ pub fn ticks(alloc: Global, form: TimeForm, text: &[u8]) -> Result<i64, TimeFaul
     ensures no_allocation { ¬ IsErrOf result TimeFault.Memory }
 {
     let _ = alloc;
-    // The law behind `only`; it does nothing.
+    // The law of `only`; it does nothing.
     one_answer();
     trimmed_ticks(form, trimmed_text(text))
 }
