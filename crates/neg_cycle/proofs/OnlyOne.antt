@@ -1,5 +1,5 @@
 -- Only one list is the greatest, and only one the least.
-use Rattle.std.proofs.Common.{◌≡◌, ℤ, pos, List, length, arith}
+use Rattle.std.proofs.Common.{◌≡◌, ℤ, pos, List, arith}
 use Rattle.std.proofs.lemmas.Int.{ints}
 use Rattle.std.proofs.lemmas.List.{ext_get_or}
 use Rattle.neg_cycle.specs.Distances.{AreAtMost, GreatestIsOne, LeastIsOne}
