@@ -2,10 +2,10 @@
 use Rattle.std.proofs.Common.{◌≡◌, ◌≢◌, inl, inr, ℕ, List, Some, None, Ok, refl, sym, ap, subst, ◌∙◌, length, ◌≤◌, ◌+◌}
 use Rattle.rule_file.specs.declared.fault.RuleFault.{RuleFault}
 use Rattle.rule_file.specs.declared.read.TheConstants.{LONGEST as longest_rules}
-use Rattle.series_csv.specs.declared.fault.TableFault.{TableFault}
-use Rattle.series_csv.specs.declared.table.Row.{Row}
-use Rattle.series_csv.specs.declared.read.TheConstants.{LONGEST as longest_readings}
-use Rattle.series_csv.specs.ReadingsFile.{Reads as ReadsReadings}
+use Rattle.narrow_csv.specs.declared.fault.TableFault.{TableFault}
+use Rattle.narrow_csv.specs.declared.table.Row.{Row}
+use Rattle.narrow_csv.specs.declared.read.TheConstants.{LONGEST as longest_readings}
+use Rattle.narrow_csv.specs.ReadingsFile.{Reads as ReadsReadings}
 use Rattle.screen_tool.specs.declared.command.Command.{Command}
 use Rattle.screen_tool.specs.declared.command.Command.TheVariants.{Global}
 use Rattle.screen_tool.specs.declared.ends.Inputs.{Inputs}

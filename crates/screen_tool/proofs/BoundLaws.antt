@@ -10,8 +10,8 @@ use Rattle.screen_model.specs.declared.place.Place.{Place}
 use Rattle.screen_model.specs.Series.{reading_at}
 use Rattle.screen_model.specs.declared.bound.Bound.{Bound}
 use Rattle.screen_model.specs.Obeys.{Keeps, Obeys, without_prices}
-use Rattle.series_csv.specs.declared.table.Row.{Row}
-use Rattle.series_csv.specs.Rows.{AreRows, IsSmall, Rises, places_from, places, values}
+use Rattle.narrow_csv.specs.declared.table.Row.{Row}
+use Rattle.narrow_csv.specs.Rows.{AreRows, IsSmall, Rises, places_from, places, values}
 use Rattle.screen_tool.specs.declared.speed.WholeSpeed.{WholeSpeed}
 use Rattle.screen_tool.specs.Bounds.{bounds, size_bounds, speed_bounds, later_bounds, pair_bounds, is_within, place_in, greatest_step, least_step}
 use Rattle.screen_tool.specs.Changes.{ChangesWithin, ChangesAllWithin, MeetsSpeed}

@@ -3,9 +3,9 @@ use Rattle.std.proofs.Common.{◌≡◌, ◌≢◌, inl, inr, ℕ, ◌≤◌, Li
 use Rattle.rule_file.specs.declared.rules.Rules.{Rules}
 use Rattle.rule_file.specs.declared.read.TheConstants.{LONGEST as longest_rules}
 use Rattle.rule_file.specs.File.{ReadsFile}
-use Rattle.series_csv.specs.declared.table.Row.{Row}
-use Rattle.series_csv.specs.declared.read.TheConstants.{LONGEST as longest_readings}
-use Rattle.series_csv.specs.ReadingsFile.{Reads as ReadsReadings}
+use Rattle.narrow_csv.specs.declared.table.Row.{Row}
+use Rattle.narrow_csv.specs.declared.read.TheConstants.{LONGEST as longest_readings}
+use Rattle.narrow_csv.specs.ReadingsFile.{Reads as ReadsReadings}
 use Rattle.screen_io.specs.Faults.{Rose}
 use Rattle.screen_io.specs.Sink.{Gains}
 use Rattle.screen_io.proofs.WholeReads.{taken_front, taken_whole}

@@ -1,7 +1,7 @@
 -- The speed constraint on the readings, against the bounds.
 use Rattle.std.proofs.Common.{◌≡◌, ◌-◌, ◌↔◌, ℤ, pos, ◌*ℤ◌, ◌-ℤ◌, ◌≤ℤ◌, Bool, false, IsTrue}
 use Rattle.std.proofs.lemmas.Bool.{false≢true}
-use Rattle.series_csv.specs.declared.table.Row.{Row}
+use Rattle.narrow_csv.specs.declared.table.Row.{Row}
 use Rattle.screen_tool.specs.declared.speed.WholeSpeed.{WholeSpeed}
 use Rattle.screen_tool.specs.Changes.{ChangesWithin}
 

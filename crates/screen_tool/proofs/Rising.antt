@@ -1,8 +1,8 @@
 -- Rows that rise: what holds of one row and the later ones.
 use Rattle.std.proofs.Common.{◌-◌, ◌<◌, pos, List, [], ◌∷◌, arith}
-use Rattle.series_csv.specs.declared.table.Row.{Row}
+use Rattle.narrow_csv.specs.declared.table.Row.{Row}
 use Rattle.screen_tool.specs.declared.speed.WholeSpeed.{WholeSpeed}
-use Rattle.series_csv.specs.Rows.{Rises}
+use Rattle.narrow_csv.specs.Rows.{Rises}
 use Rattle.screen_tool.specs.Changes.{ChangesAllWithin}
 
 -- a row in between may be left out

@@ -6,11 +6,11 @@ use Rattle.screen_io.specs.Sink.{Gains, GainsPrefix}
 use Rattle.screen_io.specs.declared.source.Failed.{Failed}
 use Rattle.rule_file.specs.declared.fault.RuleFault.{RuleFault}
 use Rattle.rule_file.specs.declared.read.TheConstants.{LONGEST as longest_rules}
-use Rattle.series_csv.specs.declared.fault.TableFault.{TableFault}
-use Rattle.series_csv.specs.declared.table.Row.{Row}
-use Rattle.series_csv.specs.declared.read.TheConstants.{LONGEST as longest_readings}
-use Rattle.series_csv.specs.ReadingsFile.{Reads as ReadsReadings}
-use Rattle.series_csv.specs.Rows.{places, values}
+use Rattle.narrow_csv.specs.declared.fault.TableFault.{TableFault}
+use Rattle.narrow_csv.specs.declared.table.Row.{Row}
+use Rattle.narrow_csv.specs.declared.read.TheConstants.{LONGEST as longest_readings}
+use Rattle.narrow_csv.specs.ReadingsFile.{Reads as ReadsReadings}
+use Rattle.narrow_csv.specs.Rows.{places, values}
 use Rattle.screen_model.specs.Obeys.{Obeys, without_prices}
 use Rattle.screen_tool.specs.declared.command.Command.{Command}
 use Rattle.screen_tool.specs.declared.ends.Inputs.{Inputs}

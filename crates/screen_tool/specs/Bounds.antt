@@ -7,7 +7,7 @@ use Rattle.screen_model.specs.declared.bound.Side.{Side}
 use Rattle.screen_model.specs.declared.bound.Side.TheVariants.{Up, Down}
 use Rattle.screen_model.specs.declared.bound.Bound.{Bound}
 use Rattle.screen_model.specs.declared.bound.BoundName.{BoundName}
-use Rattle.series_csv.specs.declared.table.Row.{Row}
+use Rattle.narrow_csv.specs.declared.table.Row.{Row}
 use Rattle.screen_tool.specs.declared.speed.WholeSpeed.{WholeSpeed}
 
 -- the greatest whole change in so many seconds at a rate for each `per` seconds

@@ -1,7 +1,7 @@
 -- For proofs: the speed constraint on the readings themselves, with no bound made.
 use Rattle.std.specs.Prelude.{◌-◌, ◌≤◌, pos, ◌*ℤ◌, ◌-ℤ◌, ◌≤ℤ◌, List, [], ◌∷◌}
 use Rattle.std.specs.List.{AllByRecursion}
-use Rattle.series_csv.specs.declared.table.Row.{Row}
+use Rattle.narrow_csv.specs.declared.table.Row.{Row}
 use Rattle.screen_tool.specs.declared.speed.WholeSpeed.{WholeSpeed}
 
 -- the later reading differs by what the rates allow in the seconds between the two

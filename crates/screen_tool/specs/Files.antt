@@ -2,14 +2,14 @@
 use Rattle.std.specs.Prelude.{ℕ, ◌+◌, List, None}
 use Rattle.rule_file.specs.declared.fault.RuleFault.{RuleFault}
 use Rattle.rule_file.specs.Fault.{of_the_file as of_the_rules}
-use Rattle.series_csv.specs.Fault.{of_the_file as of_the_readings}
+use Rattle.narrow_csv.specs.Fault.{of_the_file as of_the_readings}
 use Rattle.rule_file.specs.declared.read.TheConstants.{LONGEST as longest_rules}
 use Rattle.rule_file.specs.declared.fault.RuleCause.TheVariants as rules
-use Rattle.series_csv.specs.declared.fault.TableFault.{TableFault}
-use Rattle.series_csv.specs.declared.fault.TableCause.TheVariants as readings
-use Rattle.series_csv.specs.declared.table.Row.{Row}
-use Rattle.series_csv.specs.declared.read.TheConstants.{LONGEST as longest_readings}
-use Rattle.series_csv.specs.ReadingsFile.{Reads as ReadsReadings}
+use Rattle.narrow_csv.specs.declared.fault.TableFault.{TableFault}
+use Rattle.narrow_csv.specs.declared.fault.TableCause.TheVariants as readings
+use Rattle.narrow_csv.specs.declared.table.Row.{Row}
+use Rattle.narrow_csv.specs.declared.read.TheConstants.{LONGEST as longest_readings}
+use Rattle.narrow_csv.specs.ReadingsFile.{Reads as ReadsReadings}
 use Rattle.screen_tool.specs.declared.speed.WholeSpeed.{WholeSpeed}
 use Rattle.screen_tool.specs.declared.status.Outcome.{Outcome}
 use Rattle.screen_tool.specs.declared.status.Outcome.TheVariants.{RulesRefused, ReadingsRefused}

@@ -1,8 +1,8 @@
 -- To be believed: what the command `global` answers to its rules and its readings.
 use Rattle.std.specs.Prelude.{◌≡◌, ◌⊎◌, ℕ, List, codes, Some}
-use Rattle.series_csv.specs.declared.table.Row.{Row}
-use Rattle.series_csv.specs.Rows.{places, values}
-use Rattle.series_csv.specs.Text.{table_text}
+use Rattle.narrow_csv.specs.declared.table.Row.{Row}
+use Rattle.narrow_csv.specs.Rows.{places, values}
+use Rattle.narrow_csv.specs.Text.{table_text}
 use Rattle.screen_model.specs.Obeys.{Obeys, without_prices}
 use Rattle.screen_tool.specs.declared.ends.Inputs.{Inputs}
 use Rattle.screen_tool.specs.declared.speed.WholeSpeed.{WholeSpeed}

@@ -1,7 +1,7 @@
 -- To be believed: what the program is for, as far as it is built, in one piece.
 use Rattle.std.specs.Prelude.{◌≡◌, ◌≢◌, ◌⊎◌, ℕ, List, Option, Some, Ok}
-use Rattle.series_csv.specs.declared.table.Row.{Row}
-use Rattle.series_csv.specs.ReadingsFile.{Reads as ReadsReadings}
+use Rattle.narrow_csv.specs.declared.table.Row.{Row}
+use Rattle.narrow_csv.specs.ReadingsFile.{Reads as ReadsReadings}
 use Rattle.screen_io.specs.Faults.{Rose}
 use Rattle.screen_io.specs.Sink.{Gains}
 use Rattle.screen_tool.specs.declared.ends.Inputs.{Inputs}

@@ -2,8 +2,8 @@
 use Rattle.std.specs.Prelude.{ℕ, List, [], ◌++◌, codes, decimal}
 use Rattle.rule_file.specs.declared.fault.RuleCause.{RuleCause}
 use Rattle.rule_file.specs.declared.fault.RuleCause.TheVariants as rules
-use Rattle.series_csv.specs.declared.fault.TableCause.{TableCause}
-use Rattle.series_csv.specs.declared.fault.TableCause.TheVariants as readings
+use Rattle.narrow_csv.specs.declared.fault.TableCause.{TableCause}
+use Rattle.narrow_csv.specs.declared.fault.TableCause.TheVariants as readings
 use Rattle.screen_tool.specs.declared.status.Ending.{Ending}
 use Rattle.screen_tool.specs.declared.status.Ending.TheVariants.{Ended, ReadFault, WriteFault, Memory}
 use Rattle.screen_tool.specs.declared.status.Outcome.{Outcome}

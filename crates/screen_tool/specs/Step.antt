@@ -3,10 +3,10 @@ use Rattle.std.specs.Prelude.{◌≡◌, ℕ, ◌+◌, ◌<◌, ◌≤◌, List,
 use Rattle.std.specs.declared.alloc.Global.{Global as Heap}
 use Rattle.rule_file.specs.declared.fault.RuleFault.{RuleFault}
 use Rattle.rule_file.specs.Fault.{of_the_file as of_the_rules}
-use Rattle.series_csv.specs.Fault.{of_the_file as of_the_readings}
+use Rattle.narrow_csv.specs.Fault.{of_the_file as of_the_readings}
 use Rattle.rule_file.specs.declared.fault.RuleCause.TheVariants as rules
-use Rattle.series_csv.specs.declared.fault.TableFault.{TableFault}
-use Rattle.series_csv.specs.declared.fault.TableCause.TheVariants as readings
+use Rattle.narrow_csv.specs.declared.fault.TableFault.{TableFault}
+use Rattle.narrow_csv.specs.declared.fault.TableCause.TheVariants as readings
 use Rattle.screen_io.specs.Faults.{Rose}
 use Rattle.screen_io.specs.Source.{Takes}
 use Rattle.screen_tool.specs.declared.ends.Inputs.{Inputs}

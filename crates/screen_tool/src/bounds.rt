@@ -2,12 +2,12 @@
 ghost use Rattle.std.specs.Prelude.{◌≡◌, ◌↔◌, ◌<◌, ◌≤◌, ◌∷◌, ◌-ℤ◌, ◌*ℤ◌, ◌≤ℤ◌, IsTrue, unsigned_abs};
 ghost use Rattle.std.specs.List.{AllByRecursion};
 ghost use Rattle.screen_model.specs.Obeys.{Obeys, without_prices};
-ghost use Rattle.series_csv.specs.Rows.{AreRows, IsSmall, Rises, places, values};
+ghost use Rattle.narrow_csv.specs.Rows.{AreRows, IsSmall, Rises, places, values};
 ghost use Rattle.screen_tool.specs.Bounds.{bounds};
 ghost use Rattle.screen_tool.specs.Changes.{ChangesWithin, ChangesAllWithin, MeetsSpeed};
 
 use crate::speed::WholeSpeed;
-use series_csv::Row;
+use narrow_csv::Row;
 
 /// Whether the readings obey every bound that the rule makes over them.
 pub(crate) fn obeys(rule: &WholeSpeed, rows: &[Row]) -> bool

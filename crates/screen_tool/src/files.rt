@@ -1,16 +1,16 @@
 //! The steps of a command that read its rules and its readings.
 ghost use Rattle.rule_file.specs.declared.read.TheConstants.{LONGEST as longest_rules};
-ghost use Rattle.series_csv.specs.declared.read.TheConstants.{LONGEST as longest_readings};
-ghost use Rattle.series_csv.specs.ReadingsFile.{Reads as ReadsReadings};
+ghost use Rattle.narrow_csv.specs.declared.read.TheConstants.{LONGEST as longest_readings};
+ghost use Rattle.narrow_csv.specs.ReadingsFile.{Reads as ReadsReadings};
 ghost use Rattle.screen_tool.specs.Narrow.{Reads as ReadsRules};
 ghost use Rattle.screen_tool.specs.Step.{IsFound, IsStep, WasRead};
 
 use crate::narrow::whole_speed;
 use crate::speed::WholeSpeed;
 use crate::step::StepFault;
+use narrow_csv::{Table, TableCause, TableFault, read_table};
 use rule_file::{RuleCause, RuleFault, read_rules};
 use screen_io::{ReadFault, Source, read_all};
-use series_csv::{Table, TableCause, TableFault, read_table};
 use std::alloc::{AllocError, Global};
 
 /// Reads the rules.
@@ -32,7 +32,7 @@ pub(crate) fn table_from<S: Source>(
 ) -> Result<Table, StepFault<TableFault>>
     ensures { IsStep S.left S.faults longest_readings (ReadsReadings rules.now.sensor) src.old src.new result }
 {
-    let bytes = bytes_from(alloc, src, series_csv::LONGEST as u64)?;
+    let bytes = bytes_from(alloc, src, narrow_csv::LONGEST as u64)?;
     table_of(alloc, rules, bytes.as_slice())
 }
 

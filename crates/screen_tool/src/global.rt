@@ -1,7 +1,7 @@
 //! The command `global`: it writes readings that obey as they are, with their certificate.
 ghost use Rattle.std.specs.Prelude.{◌≡◌, ◌≢◌, Some, Err, IfOk, MatchResult};
-ghost use Rattle.series_csv.specs.Rows.{values};
-ghost use Rattle.series_csv.specs.Text.{table_text as text_of_table};
+ghost use Rattle.narrow_csv.specs.Rows.{values};
+ghost use Rattle.narrow_csv.specs.Text.{table_text as text_of_table};
 ghost use Rattle.screen_tool.specs.Global.{AnswersGlobal, unchanged as unchanged_answer};
 ghost use Rattle.screen_tool.specs.Step.{Ends, IsReplyOf, Replies};
 
@@ -12,8 +12,8 @@ use crate::laws::files_are_one;
 use crate::reply::Reply;
 use crate::speed::WholeSpeed;
 use crate::status::{Ending, Outcome};
+use narrow_csv::{Table, table_text};
 use screen_io::Source;
-use series_csv::{Table, table_text};
 use std::alloc::{AllocError, Global};
 
 /// The certificate of readings that need no repair.

@@ -8,7 +8,7 @@ pub(crate) fn files_are_one()
     ensures readings { ReadingsAreOne }
 {
     rule_file::one_answer();
-    series_csv::one_answer();
+    narrow_csv::one_answer();
 }
 
 /// A command comes to one outcome only, whatever its sources hold and whatever text it may choose.

@@ -6,8 +6,8 @@ ghost use Rattle.screen_tool.specs.Note.{note_text, outcome_text, rule_cause_nam
 use crate::status::{Ending, Outcome};
 use arrayvec::ArrayString;
 use itoa::Buffer;
+use narrow_csv::{TableCause, TableFault};
 use rule_file::{RuleCause, RuleFault};
-use series_csv::{TableCause, TableFault};
 
 /// The room for a note, in bytes.
 const ROOM: usize = 128;

@@ -3,8 +3,8 @@ ghost use Rattle.std.specs.Prelude.{◌≡◌};
 ghost use Rattle.screen_tool.specs.Ending.{code_of, status_of};
 
 use crate::step::StepFault;
+use narrow_csv::{TableCause, TableFault};
 use rule_file::{RuleCause, RuleFault};
-use series_csv::{TableCause, TableFault};
 use std::alloc::AllocError;
 
 /// How a run ended, as its exit status tells it.

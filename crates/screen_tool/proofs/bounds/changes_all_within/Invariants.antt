@@ -1,6 +1,6 @@
 use Rattle.std.proofs.Common.{◌↔◌, ◌∷◌, drop}
 use Rattle.std.specs.List.{AllByRecursion}
-use Rattle.series_csv.specs.Rows.{IsSmall, Rises}
+use Rattle.narrow_csv.specs.Rows.{IsSmall, Rises}
 use Rattle.screen_tool.specs.Changes.{ChangesAllWithin}
 use Rattle.screen_tool.proofs.bounds.changes_all_within.Given as goal
 
