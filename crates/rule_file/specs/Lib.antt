@@ -5,5 +5,6 @@ pub mod Fault
 pub mod File
 pub mod Limits
 pub mod Meaning
+pub mod Numbers
 pub mod Tables
 pub mod Toml

@@ -8,6 +8,7 @@ mod each;
 mod fault;
 mod format;
 mod name;
+mod numbers;
 mod rate;
 mod read;
 mod rules;
@@ -17,6 +18,7 @@ mod tests;
 mod typed;
 
 pub use fault::{RuleCause, RuleFault};
+pub use numbers::{NamedSensor, RuleAt, rules_are_numbered};
 pub use read::{LONGEST, one_answer, read_rules};
 pub use rules::{
     BetweenList, BetweenRule, DriftList, DriftRule, Format, Name, RangeList, RangeRule, Rules,

@@ -42,8 +42,11 @@ pub struct SpeedRule {
     pub max: Rate,
     /// The window, in ticks: 1 to 10^17.
     pub window: i64,
+    /// What a unit beyond a bound of the rule costs, 1 to 1,000; 0 where the rule has no price.
+    pub price: u32,
     pub ghost rates: { AreRates min max },
     pub ghost span: { IsSpan window },
+    pub ghost price_most: { price ≤ 1000 },
 }
 
 /// The readings of a sensor no further apart than the window differ by only so much.
@@ -55,9 +58,12 @@ pub struct SwingRule {
     pub most: i64,
     /// The window, in ticks: 1 to 10^17.
     pub window: i64,
+    /// What a unit beyond a bound of the rule costs, 1 to 1,000; 0 where the rule has no price.
+    pub price: u32,
     pub ghost least: { pos 0 ≤ℤ most },
     pub ghost size: { IsUnits most },
     pub ghost span: { IsSpan window },
+    pub ghost price_most: { price ≤ 1000 },
 }
 
 /// The readings of a sensor change only so fast over times from `over` to `window`.
@@ -73,10 +79,13 @@ pub struct DriftRule {
     pub over: i64,
     /// The longest time that it speaks of, in ticks: at most 10^17.
     pub window: i64,
+    /// What a unit beyond a bound of the rule costs, 1 to 1,000; 0 where the rule has no price.
+    pub price: u32,
     pub ghost rates: { AreRates min max },
     pub ghost least: { pos 1 ≤ℤ over },
     pub ghost ordered: { over ≤ℤ window },
     pub ghost span: { IsSpan window },
+    pub ghost price_most: { price ≤ 1000 },
 }
 
 /// The readings of a sensor lie within limits, from one time to another.
@@ -92,10 +101,13 @@ pub struct RangeRule {
     pub from: i64,
     /// The last tick that it speaks of, at most 9·10^18 in size.
     pub to: i64,
+    /// What a unit beyond a bound of the rule costs, 1 to 1,000; 0 where the rule has no price.
+    pub price: u32,
     pub ghost least: { IsUnits min },
     pub ghost most: { IsUnits max },
     pub ghost ordered: { min ≤ℤ max },
     pub ghost period: { IsPeriod from to },
+    pub ghost price_most: { price ≤ 1000 },
 }
 
 /// The readings of a sensor are right, from one time to another.
@@ -138,10 +150,13 @@ pub struct BetweenRule {
     pub min: i64,
     /// The greatest difference, in units, at most 10^15 in size.
     pub max: i64,
+    /// What a unit beyond a bound of the rule costs, 1 to 1,000; 0 where the rule has no price.
+    pub price: u32,
     pub ghost apart: { first ≢ second },
     pub ghost least: { IsUnits min },
     pub ghost most: { IsUnits max },
     pub ghost ordered: { min ≤ℤ max },
+    pub ghost price_most: { price ≤ 1000 },
 }
 
 /// Speed rules in the order of the file.
