@@ -1,7 +1,8 @@
+pub mod Checks
 pub mod Continues
 pub mod Facts
 pub mod Known
-pub mod Names
+pub mod Numbered
 pub mod OneFile
 pub mod OneRule
 pub mod Pushed

@@ -5,8 +5,6 @@ use Rattle.std.specs.List.{AllZip, AllByRecursion}
 use Rattle.std.proofs.lemmas.List.Elements.{All-from_recursion}
 use Rattle.toml.specs.Data.{Members}
 use Rattle.fix_point.specs.declared.rate.Rate.{Rate}
-use Rattle.time_text.specs.declared.form.TimeForm.{TimeForm}
-use Rattle.time_text.specs.declared.form.TimeForm.TheVariants as form
 use Rattle.rule_keys.specs.declared.key.TableKind.{TableKind}
 use Rattle.rule_keys.specs.declared.key.TableKind.TheVariants.{Speed, Drift}
 use Rattle.rule_keys.specs.declared.read.Scale.{Scale}
@@ -21,8 +19,8 @@ use Rattle.rule_file.specs.declared.rules.DriftRule.{DriftRule}
 use Rattle.rule_file.specs.Document.{ReadsRules}
 use Rattle.rule_file.specs.Draft.{AreDraftOf}
 use Rattle.rule_file.specs.Limits.{IsInReach, AreInReach}
-use Rattle.rule_file.specs.Meaning.{Entries, of_kind, form_number, form_at, scale_of, IsFormatOf, IsSpeed, IsDrift}
-use Rattle.rule_file.proofs.Names.{reads_passes}
+use Rattle.rule_file.specs.Meaning.{Entries, of_kind, scale_of, IsFormatOf, IsSpeed, IsDrift}
+use Rattle.rule_file.proofs.Checks.{reads_passes}
 
 -- the entries pass the checks of the kind
 abbrev pub PassesAll : ℕ → TableKind → Entries → Type 0
@@ -90,17 +88,9 @@ drifts_reach scale d tables read draft same reads kept =
     (drift_reaches scale.decimals) (of_kind Drift read) draft.drifts kept.drifts (drifts_pass scale.decimals read (rules_pass scale 1 tables read reads))))
 
 -- what the rules are counted in
-pub form_back : (f : TimeForm) → form_at (form_number f) ≡ f
-form_back form.Sec = refl
-form_back form.Milli = refl
-form_back form.Micro = refl
-form_back form.Nano = refl
-form_back form.Instant = refl
-form_back form.Civil = refl
-
 pub same_scale : (entries : Entries) (format : Format) (scale : Scale) → IsFormatOf entries format → scale.decimals ≡ format.decimals → scale.form ≡ format.form
     → scale ≡ scale_of entries
-same_scale entries format scale is decimals form = rw (is.decimals, is.form, form_back format.form, ← decimals, ← form)
+same_scale entries format scale is decimals form = rw (is.decimals, is.form, ← decimals, ← form)
 
 pub reads_scaled : (scale other : Scale) (tables : List (TableKind × Members)) (answer : Result (List (TableKind × Entries)) RuleFault)
     → scale ≡ other → ReadsRules scale 1 tables answer → ReadsRules other 1 tables answer

@@ -6,5 +6,6 @@ pub mod File
 pub mod Limits
 pub mod Meaning
 pub mod Numbers
+pub mod Single
 pub mod Tables
 pub mod Toml

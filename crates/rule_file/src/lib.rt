@@ -13,15 +13,13 @@ mod rate;
 mod read;
 mod rules;
 mod tables;
-#[cfg(test)]
-mod tests;
 mod typed;
 
 pub use fault::{RuleCause, RuleFault};
 pub use numbers::{NamedSensor, RuleAt, rules_are_numbered};
 pub use read::{LONGEST, one_answer, read_rules};
 pub use rules::{
-    BetweenList, BetweenRule, DriftList, DriftRule, Format, Name, RangeList, RangeRule, Rules,
+    BetweenList, BetweenRule, DriftList, DriftRule, Format, MOST_RULES, Name, RangeList, RangeRule, Rules,
     SpeedList, SpeedRule, SwingList, SwingRule, TrustList, TrustRule, WeightList, WeightRule,
 };
 pub use tables::key_of;

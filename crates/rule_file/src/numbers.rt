@@ -1,12 +1,16 @@
 //! The rules by their numbers, and the sensors in the order of these numbers.
-ghost use Rattle.std.specs.Prelude.{◌≡◌};
+ghost use Rattle.std.specs.Prelude.{◌≡◌, ◌+◌, Some, length, slice_get, if◌then◌else◌, MatchResult};
 ghost use Rattle.rule_file.specs.Numbers.{AreNumbered, price_of, seen_rule};
+ghost use Rattle.rule_file.specs.Single.{first_name};
 
 use crate::rules::{
     BetweenRule, DriftRule, RangeRule, Rules, SpeedRule, SwingRule, TrustRule, WeightRule,
 };
+use rule_keys::TableKind;
+use sequence::Sequence;
 
 /// A rule of some kind.
+#[derive(Clone, Copy)]
 pub enum RuleAt<'a> {
     /// The readings of a sensor change only so fast.
     Speed(&'a SpeedRule),
@@ -50,8 +54,8 @@ pub struct NamedSensor<'a> {
 }
 
 impl Rules {
-    ghost use Rattle.std.specs.Prelude.{◌≡◌, None, ◌+◌, length, option_map, slice_get, MatchOption};
-    ghost use Rattle.rule_file.specs.Numbers.{rule_of, seen_rule, seen_sensor, sensors, SensorsStandFrom};
+    ghost use Rattle.std.specs.Prelude.{◌≡◌, None, length, option_map, slice_get, MatchOption};
+    ghost use Rattle.rule_file.specs.Numbers.{count_before, rule_of, seen_rule, seen_sensor, sensors, SensorsStandFrom};
 
     /// The rule of a number, counted from 1: the speed rules in the order of the file, then the swing, drift, range,
     /// trust, weight and between rules. `None` exactly where there is no such number. Takes constant time and no
@@ -59,40 +63,40 @@ impl Rules {
     pub fn rule_at(&self, number: u32) -> Option<RuleAt<'_>>
         ensures { option_map seen_rule result ≡ rule_of self.now number }
     {
-        let place = (number as usize).checked_sub(1)?;
-        if let Some(rule) = self.speeds.get(place) {
-            return Some(RuleAt::Speed(rule));
+        if number == 0 {
+            return None;
         }
-        let place = place - self.speeds.len();
-        if let Some(rule) = self.swings.get(place) {
-            return Some(RuleAt::Swing(rule));
+        let swing_place = match at(&self.speeds, number as usize - 1) {
+            Ok(rule) => return Some(RuleAt::Speed(rule)),
+            Err(past) => past,
+        };
+        let drift_place = match at(&self.swings, swing_place) {
+            Ok(rule) => return Some(RuleAt::Swing(rule)),
+            Err(past) => past,
+        };
+        let range_place = match at(&self.drifts, drift_place) {
+            Ok(rule) => return Some(RuleAt::Drift(rule)),
+            Err(past) => past,
+        };
+        let trust_place = match at(&self.ranges, range_place) {
+            Ok(rule) => return Some(RuleAt::Range(rule)),
+            Err(past) => past,
+        };
+        let weight_place = match at(&self.trusts, trust_place) {
+            Ok(rule) => return Some(RuleAt::Trust(rule)),
+            Err(past) => past,
+        };
+        match at(&self.weights, weight_place) {
+            Ok(rule) => Some(RuleAt::Weight(rule)),
+            Err(past) => self.betweens.get(past).map(RuleAt::Between),
         }
-        let place = place - self.swings.len();
-        if let Some(rule) = self.drifts.get(place) {
-            return Some(RuleAt::Drift(rule));
-        }
-        let place = place - self.drifts.len();
-        if let Some(rule) = self.ranges.get(place) {
-            return Some(RuleAt::Range(rule));
-        }
-        let place = place - self.ranges.len();
-        if let Some(rule) = self.trusts.get(place) {
-            return Some(RuleAt::Trust(rule));
-        }
-        let place = place - self.trusts.len();
-        if let Some(rule) = self.weights.get(place) {
-            return Some(RuleAt::Weight(rule));
-        }
-        let place = place - self.weights.len();
-        let rule = self.betweens.get(place)?;
-        Some(RuleAt::Between(rule))
     }
 
     /// How many sensors `sensor` tells: one for each rule, and two for a rule between two sensors.
     pub fn sensor_count(&self) -> u32
         ensures { result ≡ length (sensors self.now) }
     {
-        self.count() + self.betweens.len() as u32
+        self.single_count() + 2 * self.betweens.len() as u32
     }
 
     /// The sensor at a place, counted from 0, among the sensors of all rules in the order of their numbers, of a
@@ -101,14 +105,22 @@ impl Rules {
     pub fn sensor(&self, i: u32) -> Option<NamedSensor<'_>>
         ensures { option_map seen_sensor result ≡ slice_get (sensors self.now) i }
     {
-        let single = self.count() - self.betweens.len() as u32;
+        let single = self.single_count();
         if i < single {
             let rule = self.rule_at(i + 1)?;
-            return Some(NamedSensor { rule: i + 1, name: first_sensor(&rule) });
+            return Some(NamedSensor {
+                rule: i + 1,
+                name: first_sensor(&rule),
+            });
         }
-        let half = i - single;
-        let rule = self.betweens.get((half / 2) as usize)?;
-        Some(NamedSensor { rule: single + half / 2 + 1, name: side(rule, half % 2 == 1) })
+        let past = i - single;
+        let Some(rule) = self.betweens.get((past / 2) as usize) else {
+            return None;
+        };
+        Some(NamedSensor {
+            rule: single + past / 2 + 1,
+            name: sensor_between(rule, past % 2 == 1),
+        })
     }
 
     /// The place of the rule's sensor, or of its first sensor, among the sensors that `sensor` tells; the second
@@ -117,17 +129,40 @@ impl Rules {
     pub fn sensor_index(&self, number: u32) -> Option<u32>
         ensures { MatchOption result (rule_of self.now number ≡ None) (SensorsStandFrom self.now number) }
     {
-        if number > self.count() {
+        if number == 0 || number > self.count() {
             return None;
         }
-        let place = number.checked_sub(1)?;
-        let single = self.count() - self.betweens.len() as u32;
-        Some(place + place.saturating_sub(single))
+        let place = number - 1;
+        Some(place + place.saturating_sub(self.single_count()))
+    }
+
+    /// How many rules speak of one sensor each.
+    fn single_count(&self) -> u32
+        ensures { result ≡ count_before TableKind.Between self.now }
+    {
+        (self.speeds.len()
+            + self.swings.len()
+            + self.drifts.len()
+            + self.ranges.len()
+            + self.trusts.len()
+            + self.weights.len()) as u32
     }
 }
 
-/// The name of the sensor of a rule, of a rule between two sensors of the first.
-fn first_sensor<'a>(rule: &RuleAt<'a>) -> &'a [u8] {
+/// The element at a place, or how far the place is past the end.
+fn at<T: Drop>(list: &Sequence<T>, place: usize) -> Result<&T, usize>
+    ensures { MatchResult result (λ element. slice_get list.now place ≡ Some element.now) (λ past. place ≡ length list.now + past) }
+{
+    match list.get(place) {
+        Some(element) => Ok(element),
+        None => Err(place - list.len()),
+    }
+}
+
+/// The name of the sensor of a rule, of a rule between two sensors that of the first.
+fn first_sensor<'a>(rule: &RuleAt<'a>) -> &'a [u8]
+    ensures { result.now ≡ first_name (seen_rule rule.now) }
+{
     match rule {
         RuleAt::Speed(rule) => rule.sensor.bytes(),
         RuleAt::Swing(rule) => rule.sensor.bytes(),
@@ -139,8 +174,10 @@ fn first_sensor<'a>(rule: &RuleAt<'a>) -> &'a [u8] {
     }
 }
 
-/// The name of the first or the second sensor of a rule between two.
-fn side(rule: &BetweenRule, second: bool) -> &[u8] {
+/// The name of the first or of the second sensor of a rule between two.
+fn sensor_between(rule: &BetweenRule, second: bool) -> &[u8]
+    ensures { result.now ≡ (if second then rule.now.second else rule.now.first) }
+{
     if second {
         rule.second.bytes()
     } else {

@@ -39,7 +39,7 @@ fn file_rules(alloc: Global, bytes: &[u8]) -> Result<Rules, RuleFault>
     ensures { UnlessMemory (of_the_file RuleCause.Memory) (ReadsFile bytes.now) result }
 {
     if bytes.len() > LONGEST {
-        return Err(RuleFault::of_the_file(RuleCause::FileTooLong));
+        return Err(RuleFault::too_long());
     }
     match toml::table_from_slice(alloc, bytes) {
         Ok(file) => document_rules(alloc, &file),
