@@ -2,7 +2,7 @@
 use Rattle.std.proofs.Common.{◌≡◌, ℕ, ◌*◌, ◌^◌, ◌<◌, ◌≤◌, ◌↔◌, ℤ, pos, negsuc, neg_ℤ, ◌+ℤ◌, ◌-ℤ◌, ◌*ℤ◌, ◌≤ℤ◌, FitsSigned, to_z, of_z, sym, ap, ◌∙◌, subst, arith}
 use Rattle.std.specs.Prelude.{unsigned_abs}
 use Rattle.std.specs.Int.{w64, w128, int_div_euclid}
-use Rattle.std.proofs.Math.IntN.{*ℤ-zero, zero-*ℤ}
+use Rattle.std.proofs.Math.IntN.{*ℤ-zero, zero-*ℤ, neg_ℤ-neg_ℤ}
 use Rattle.std.proofs.Math.Nat.{mul-le-mul_left}
 use Rattle.std.proofs.lemmas.Int.{ints, unsigned_abs-mul, fits_signed_mul, fits_signed_from_abs, to_z-of_z, to_z_pos}
 use Rattle.words.proofs.Products.{sum_mul, mul_sum, neg_mul, zero_minus_mul, within_size, size_within, size_of_minus, le_of_mul-le, at_most_floor}
@@ -186,6 +186,12 @@ opposite_within rate d dt within =
       ticks_most = within.ticks_most;
       reach = omega (arith, ap (λ n. n * 10 ^ d * unsigned_abs dt) size, within.reach);
     }
+
+pub ceil_small : (rate : Rate) (d : ℕ) (dt step : ℤ) → IsWithinReach rate d dt → IsCeil rate d dt step → unsigned_abs step ≤ 4 * 10 ^ 15
+ceil_small rate d dt step within ceil =
+    let opposed = opposite_within rate d dt within in
+    let floor = floor_of_ceil rate d dt (neg_ℤ step) (subst (λ s. IsCeil rate d dt s) (sym (neg_ℤ-neg_ℤ step)) ceil) in
+    omega (arith, size_of_neg step, step_small (opposite rate) d dt (neg_ℤ step) opposed.limited.per_least opposed.reach floor)
 
 -- ---- fewer ticks
 

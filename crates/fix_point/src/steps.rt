@@ -64,13 +64,15 @@ impl Steps {
         ensures greatest_small { unsigned_abs result.greatest ≤ 4 * 10 ^ 15 }
         ensures rates { self.new ≡ self.old }
     {
-        if dt != self.dt {
-            self.last = Step {
-                least: ceil_rate(self.lower, self.d, dt),
-                greatest: floor_rate(self.upper, self.d, dt),
-            };
-            self.dt = dt;
+        if dt == self.dt {
+            return self.last;
         }
-        self.last
+        let step = Step {
+            least: ceil_rate(self.lower, self.d, dt),
+            greatest: floor_rate(self.upper, self.d, dt),
+        };
+        self.dt = dt;
+        self.last = step;
+        step
     }
 }
