@@ -1,14 +1,14 @@
 -- Whole steps of rates.
-use Rattle.std.proofs.Common.{◌≡◌, ℕ, ◌*◌, ◌^◌, ◌<◌, ◌≤◌, ◌↔◌, ℤ, pos, negsuc, neg_ℤ, ◌+ℤ◌, ◌-ℤ◌, ◌*ℤ◌, ◌≤ℤ◌, FitsSigned, to_z, of_z, sym, ap, ◌∙◌, subst, arith}
+use Rattle.std.proofs.Common.{◌≡◌, ℕ, ◌*◌, ◌^◌, ◌<◌, ◌≤◌, ℤ, pos, negsuc, neg_ℤ, ◌+ℤ◌, ◌-ℤ◌, ◌*ℤ◌, ◌≤ℤ◌, FitsSigned, to_z, of_z, sym, ap, ◌∙◌, subst, arith}
 use Rattle.std.specs.Prelude.{unsigned_abs}
 use Rattle.std.specs.Int.{w64, w128, int_div_euclid}
 use Rattle.std.proofs.Math.IntN.{*ℤ-zero, zero-*ℤ, neg_ℤ-neg_ℤ}
 use Rattle.std.proofs.Math.Nat.{mul-le-mul_left}
 use Rattle.std.proofs.lemmas.Int.{ints, unsigned_abs-mul, fits_signed_mul, fits_signed_from_abs, to_z-of_z, to_z_pos}
-use Rattle.words.proofs.Products.{sum_mul, mul_sum, neg_mul, zero_minus_mul, within_size, size_within, size_of_minus, le_of_mul-le, at_most_floor}
+use Rattle.words.proofs.Products.{sum_mul, mul_sum, neg_mul, within_size, size_within, size_of_minus, le_of_mul-le, at_most_floor}
 use Rattle.fix_point.specs.declared.rate.Rate.{Rate}
 use Rattle.fix_point.proofs.Sizes.{powers}
-use Rattle.fix_point.specs.Rates.{IsRate, IsInReach, IsWithinReach, IsFloor, IsCeil, opposite}
+use Rattle.fix_point.specs.Rates.{IsInReach, IsWithinReach, IsFloor, IsCeil, opposite}
 
 -- ---- laws of steps
 

@@ -2,7 +2,7 @@
 ghost use Rattle.std.specs.Prelude.{◌≡◌, ℕ, ℤ, ◌/◌, ◌%◌, ◌++◌, ◌^◌, ◌<◌, ◌≤◌, IfOk, OnOk, decimal, unsigned_abs};
 ghost use Rattle.fix_point.specs.declared.scale.Extra.{Extra};
 ghost use Rattle.fix_point.specs.Scaled.{Spells};
-ghost use Rattle.fix_point.specs.Text.{decimals_text, places, minus_text, text_of_value};
+ghost use Rattle.fix_point.specs.Text.{decimals_text, places, text_of_value};
 
 use itoa::Buffer;
 use std::alloc::{AllocError, Global};

@@ -1,5 +1,5 @@
 -- A time text has one answer.
-use Rattle.std.proofs.Common.{◌≡◌, ◌≢◌, ℕ, ◌≤◌, ℤ, pos, List, Result, Ok, Err, IfOk, IfErr, length, unsigned_abs, IsUtf8, inl, inr, refl, sym, ap, ◌∙◌, arith}
+use Rattle.std.proofs.Common.{◌≡◌, ◌≢◌, ℕ, ◌≤◌, ℤ, List, Result, Ok, Err, IfOk, IfErr, length, unsigned_abs, IsUtf8, inl, inr, refl, sym, ap, ◌∙◌, arith}
 use Rattle.jiff.specs.Types.{DateTime}
 use Rattle.jiff.specs.Words.{Error, parse_datetime, date_parts, time_parts, civil_nanos}
 use Rattle.fix_point.specs.Scaled as Scaled

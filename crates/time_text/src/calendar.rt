@@ -1,5 +1,5 @@
 //! Calendar texts as ticks, read by `jiff`.
-ghost use Rattle.std.specs.Prelude.{◌≡◌, ℤ, ◌<◌, ◌≤◌, length, take, unsigned_abs, IfOk, IfErr, IsErrOf, Ok, Err, IsUtf8};
+ghost use Rattle.std.specs.Prelude.{◌≡◌, ◌<◌, ◌≤◌, length, take, unsigned_abs, IfOk, IfErr, IsErrOf, Ok, Err, IsUtf8};
 ghost use Rattle.time_text.specs.Calendar.{with_designator, IsInstant, IsNoInstant, IsCivil, IsNoCivil};
 ghost use Rattle.time_text.specs.Ticks.{IsCalendar, CalendarRefuses};
 

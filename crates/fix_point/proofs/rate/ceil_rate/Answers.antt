@@ -1,4 +1,4 @@
-use Rattle.std.proofs.Common.{neg_ℤ, pos, ◌-ℤ◌, to_z, of_z, sym, subst}
+use Rattle.std.proofs.Common.{pos, ◌-ℤ◌, to_z, of_z, sym, subst}
 use Rattle.std.specs.Int.{w64}
 use Rattle.std.proofs.lemmas.Int.{to_z-of_z}
 use Rattle.fix_point.specs.Rates.{IsFloor, IsWithinReach}
