@@ -16,7 +16,7 @@ use Rattle.screen_tool.specs.declared.speed.WholeSpeed.{WholeSpeed}
 use Rattle.screen_tool.specs.Bounds.{bounds, size_bounds, speed_bounds, later_bounds, pair_bounds, is_within, place_in, greatest_step, least_step}
 use Rattle.screen_tool.specs.Changes.{ChangesWithin, ChangesAllWithin, MeetsSpeed}
 use Rattle.words.proofs.Lists.{all_append, all_of_append}
-use Rattle.words.proofs.Products.{at_most_floor as at_most_floor_of}
+use Rattle.words.proofs.Products.{at_most_floor as at_most_floor_of, neg_mul, mul_neg}
 use Rattle.screen_tool.proofs.Rising.{rises_without}
 
 -- a change is at most a quotient that is rounded down exactly where so many times the change are at most the dividend
@@ -45,18 +45,7 @@ shows_all number (row ∷ rows) =
     let same : (number == number) ≡ true = grind (arith, nat_tests) in
     (rw same refl, shows_after number row.value (places_from (number + 1) rows) (values rows) (number + 1) rows (omega arith) (shows_all (number + 1) rows))
 
--- signs in products and differences
-neg_mul : (a b : ℤ) → neg_ℤ a *ℤ b ≡ neg_ℤ (a *ℤ b)
-neg_mul (pos zero) (pos b) = omega (arith, ints)
-neg_mul (pos zero) (negsuc b) = omega (arith, ints)
-neg_mul (pos (suc a)) (pos b) = refl
-neg_mul (pos (suc a)) (negsuc b) = sym (neg_ℤ-neg_ℤ (pos (suc a * suc b)))
-neg_mul (negsuc a) (pos b) = sym (neg_ℤ-neg_ℤ (pos (suc a * b)))
-neg_mul (negsuc a) (negsuc b) = refl
-
-mul_neg : (a b : ℤ) → a *ℤ neg_ℤ b ≡ neg_ℤ (a *ℤ b)
-mul_neg a b = *ℤ_comm a (neg_ℤ b) ∙ neg_mul b a ∙ ap neg_ℤ (*ℤ_comm b a)
-
+-- signs in differences
 turned : (a b : ℤ) → a -ℤ b ≡ neg_ℤ (b -ℤ a)
 turned a b = omega (arith, ints)
 
