@@ -5,6 +5,7 @@ use Rattle.std.specs.List.{AllByRecursion}
 use Rattle.std.proofs.lemmas.Int.{ints, to_z-of_z}
 use Rattle.words.proofs.Products.{size_within}
 use Rattle.fix_point.specs.declared.rate.Rate.{Rate}
+use Rattle.fix_point.specs.Rates.{IsRate}
 use Rattle.fix_point.specs.declared.scale.TheConstants.{MOST_UNITS}
 use Rattle.rule_keys.specs.declared.key.Choice.TheVariants as choice
 use Rattle.rule_keys.specs.declared.key.Chosen.{Chosen}
@@ -19,7 +20,7 @@ use Rattle.rule_keys.specs.Entries.{Meaning, number, name, chosen, nothing, mean
 use Rattle.rule_keys.specs.Keys.{key_of, keys_of, price_key}
 use Rattle.rule_keys.specs.Words.{words, Means}
 use Rattle.rule_keys.proofs.Fits.{key_named, entry_stands, entry_fits}
-use Rattle.rule_file.specs.Limits.{is_separator, IsRate, AreRates, IsSpan, IsUnits, IsMoment, IsPeriod}
+use Rattle.rule_file.specs.Limits.{is_separator, AreRates, IsSpan, IsUnits, IsMoment, IsPeriod}
 use Rattle.rule_file.specs.Meaning.{Entries, IsRateAt}
 
 pub within_limits : (least most : ℤ) (meaning : Meaning) → IsWithin least most meaning → (least ≤ℤ number_in meaning) × (number_in meaning ≤ℤ most)

@@ -18,7 +18,8 @@ use Rattle.rule_file.specs.declared.rules.SpeedRule.{SpeedRule}
 use Rattle.rule_file.specs.declared.rules.DriftRule.{DriftRule}
 use Rattle.rule_file.specs.Document.{ReadsRules}
 use Rattle.rule_file.specs.Draft.{AreDraftOf}
-use Rattle.rule_file.specs.Limits.{IsInReach, AreInReach}
+use Rattle.fix_point.specs.Rates.{IsInReach}
+use Rattle.rule_file.specs.Limits.{AreInReach}
 use Rattle.rule_file.specs.Meaning.{Entries, of_kind, scale_of, IsFormatOf, IsSpeed, IsDrift}
 use Rattle.rule_file.proofs.Checks.{reads_passes}
 

@@ -1,9 +1,10 @@
 -- To be believed: the limits that the rules keep.
-use Rattle.std.specs.Prelude.{◌≡◌, ℕ, ◌*◌, ◌^◌, ◌≤◌, ℤ, pos, neg_ℤ, ◌≤ℤ◌, Bool, ◌||◌, ◌==◌, IsTrue, unsigned_abs}
+use Rattle.std.specs.Prelude.{◌≡◌, ℕ, ◌≤◌, ℤ, pos, neg_ℤ, ◌≤ℤ◌, Bool, ◌||◌, ◌==◌, IsTrue}
 use Rattle.fix_point.specs.declared.rate.Rate.{Rate}
+use Rattle.fix_point.specs.Rates.{IsRate, IsInReach}
 use Rattle.fix_point.specs.declared.scale.TheConstants.{MOST_UNITS}
 use Rattle.time_text.specs.declared.form.TheConstants.{MOST_TICKS}
-use Rattle.rule_keys.specs.declared.limits.TheConstants.{MOST_DECIMALS, MOST_HOLD, MOST_PER, MOST_MILLIONTHS, MOST_SPAN, MOST_REACH}
+use Rattle.rule_keys.specs.declared.limits.TheConstants.{MOST_DECIMALS, MOST_HOLD, MOST_SPAN}
 
 -- a comma, a semicolon, a tab or a vertical bar
 abbrev pub is_separator : ℕ → Bool
@@ -14,11 +15,6 @@ pub record IsFormat (d sep held : ℕ) : Type 0 where
   pub separator : IsTrue (is_separator sep)
   pub hold_least : 1 ≤ held
   pub hold_most : held ≤ MOST_HOLD
-
-pub record IsRate (rate : Rate) : Type 0 where
-  pub size : unsigned_abs rate.millionths ≤ MOST_MILLIONTHS
-  pub per_least : 1 ≤ rate.per
-  pub per_most : rate.per ≤ MOST_PER
 
 -- both for as many seconds, and the least is not above the greatest
 pub record AreRates (low high : Rate) : Type 0 where
@@ -39,10 +35,6 @@ IsMoment tick = (neg_ℤ MOST_TICKS ≤ℤ tick) × (tick ≤ℤ MOST_TICKS)
 abbrev pub IsPeriod : ℤ → ℤ → Type 0
 IsPeriod from to = IsMoment from × IsMoment to × (from ≤ℤ to)
 
--- a rate allows at most 4·10^15 units of 10^-d within the window
-abbrev pub IsInReach : ℕ → Rate → ℤ → Type 0
-IsInReach d rate window = unsigned_abs rate.millionths * 10 ^ d * unsigned_abs window ≤ MOST_REACH * rate.per
-
--- so do both rates
+-- both rates reach no further within the window than they may, in units of 10^-d
 abbrev pub AreInReach : ℕ → Rate → Rate → ℤ → Type 0
 AreInReach d min max window = IsInReach d min window × IsInReach d max window

@@ -8,8 +8,8 @@ mod key;
 mod keys;
 mod limits;
 mod read;
-
-
+#[cfg(test)]
+mod tests;
 mod texts;
 mod value;
 
