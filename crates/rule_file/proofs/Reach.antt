@@ -22,6 +22,7 @@ use Rattle.fix_point.specs.Rates.{IsInReach}
 use Rattle.rule_file.specs.Limits.{AreInReach}
 use Rattle.rule_file.specs.Meaning.{Entries, of_kind, scale_of, IsFormatOf, IsSpeed, IsDrift}
 use Rattle.rule_file.proofs.Checks.{reads_passes}
+use Rattle.rule_file.proofs.ByKind.{of_speeds, of_drifts}
 
 -- the entries pass the checks of the kind
 abbrev pub PassesAll : ℕ → TableKind → Entries → Type 0
@@ -37,16 +38,6 @@ rules_pass scale number [] (entry ∷ read) reads = absurd (cc reads)
 rules_pass scale number (rule ∷ tables) [] reads = absurd reads
 rules_pass scale number (rule ∷ tables) (entry ∷ read) reads =
     (rw reads.0 (reads_passes scale rule.0 rule.1 entry.1 reads.1), rules_pass scale (number + 1) tables read reads.2)
-
-pub speeds_pass : (d : ℕ) (read : List (TableKind × Entries)) → AllPass d read → AllByRecursion (PassesAll d Speed) (of_kind Speed read)
-speeds_pass d [] all = tt
-speeds_pass d ((Speed, entries) ∷ read) all = (all.0, speeds_pass d read all.1)
-speeds_pass d ((_, entries) ∷ read) all = speeds_pass d read all.1
-
-pub drifts_pass : (d : ℕ) (read : List (TableKind × Entries)) → AllPass d read → AllByRecursion (PassesAll d Drift) (of_kind Drift read)
-drifts_pass d [] all = tt
-drifts_pass d ((Drift, entries) ∷ read) all = (all.0, drifts_pass d read all.1)
-drifts_pass d ((_, entries) ∷ read) all = drifts_pass d read all.1
 
 pub within_reach : (d : ℕ) (z per window span : ℤ) (rate : Rate) → z ≡ rate.millionths → per ≡ pos rate.per → window ≡ span
     → Keys.IsInReach d z per window → IsInReach d rate span
@@ -78,7 +69,7 @@ speeds_reach scale d tables read draft same reads kept =
     rw (← same)
     (All-from_recursion (λ (rule : SpeedRule). AreInReach scale.decimals rule.min rule.max rule.window) draft.speeds
     (carried IsSpeed (PassesAll scale.decimals Speed) (λ (rule : SpeedRule). AreInReach scale.decimals rule.min rule.max rule.window)
-    (speed_reaches scale.decimals) (of_kind Speed read) draft.speeds kept.speeds (speeds_pass scale.decimals read (rules_pass scale 1 tables read reads))))
+    (speed_reaches scale.decimals) (of_kind Speed read) draft.speeds kept.speeds (of_speeds (PassesAll scale.decimals) read (rules_pass scale 1 tables read reads))))
 
 pub drifts_reach : (scale : Scale) (d : ℕ) (tables : List (TableKind × Members)) (read : List (TableKind × Entries)) (draft : Draft)
     → scale.decimals ≡ d → ReadsRules scale 1 tables (Ok read) → AreDraftOf read draft → All (λ rule. AreInReach d rule.min rule.max rule.window) draft.drifts
@@ -86,7 +77,7 @@ drifts_reach scale d tables read draft same reads kept =
     rw (← same)
     (All-from_recursion (λ (rule : DriftRule). AreInReach scale.decimals rule.min rule.max rule.window) draft.drifts
     (carried IsDrift (PassesAll scale.decimals Drift) (λ (rule : DriftRule). AreInReach scale.decimals rule.min rule.max rule.window)
-    (drift_reaches scale.decimals) (of_kind Drift read) draft.drifts kept.drifts (drifts_pass scale.decimals read (rules_pass scale 1 tables read reads))))
+    (drift_reaches scale.decimals) (of_kind Drift read) draft.drifts kept.drifts (of_drifts (PassesAll scale.decimals) read (rules_pass scale 1 tables read reads))))
 
 -- what the rules are counted in
 pub same_scale : (entries : Entries) (format : Format) (scale : Scale) → IsFormatOf entries format → scale.decimals ≡ format.decimals → scale.form ≡ format.form

@@ -1,3 +1,4 @@
+pub mod Answered
 pub mod Count
 pub mod Document
 pub mod Draft

@@ -19,7 +19,7 @@ use time_text::TimeForm;
 use toml::Table;
 
 /// What the format is read with, as it has no values and times of its own.
-const NO_SCALE: Scale = Scale {
+pub(crate) const NO_SCALE: Scale = Scale {
     decimals: 0,
     form: TimeForm::Sec,
 };

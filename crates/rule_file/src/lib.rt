@@ -2,6 +2,7 @@
 //! none.
 #![tactic(auto)]
 
+mod answered;
 mod document;
 mod draft;
 mod each;
@@ -19,6 +20,7 @@ mod tables;
 mod tests;
 mod typed;
 
+pub use answered::an_answer;
 pub use fault::{RuleCause, RuleFault};
 pub use numbers::{NamedSensor, RuleAt, rules_are_numbered};
 pub use read::{LONGEST, one_answer, read_rules};

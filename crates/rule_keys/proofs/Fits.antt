@@ -28,7 +28,7 @@ use Rattle.rule_keys.specs.declared.read.Scale.{Scale}
 use Rattle.rule_keys.specs.declared.limits.TheConstants.{MOST_MILLIONTHS, MOST_PER, MOST_SPAN}
 use Rattle.rule_keys.specs.Entries.{Meaning, number, name, chosen, nothing, is_same_key, meaning_at, number_at, number_in, IsWithin, IsMeant, IsOfKind, MayLack, CanStandAt, Fit}
 use Rattle.rule_keys.specs.Keys.{key_of, keys_of, checks_of}
-use Rattle.rule_keys.specs.Table.{ReadsAbsent, ReadsFound, ReadsKeys}
+use Rattle.rule_keys.specs.Table.{ReadsAbsent, ReadsFound, ReadsKeys, Reads}
 use Rattle.rule_keys.specs.Values.{ReadsWhole, ReadsScaled, ReadsMoment, ReadsWord, ReadsName, ReadsValue, ReadsInteger}
 use Rattle.rule_keys.specs.Within.{HasSmallNumbers}
 use Rattle.rule_keys.specs.Words.{words}
@@ -233,6 +233,10 @@ defaults_fit kind_of.Range = search rules
 defaults_fit kind_of.Trust = search rules
 defaults_fit kind_of.Weight = search rules
 defaults_fit kind_of.Between = search rules
+
+pub fits_if_read : (scale : Scale) (kind : TableKind) (given : Members) (entries : List (KeyName × Meaning)) → Reads scale kind given (Ok entries) → Fit (keys_of kind) entries
+fits_if_read scale kind given entries (inl refused) = absurd (cc refused.1)
+fits_if_read scale kind given entries (inr read) = fit_of_reads scale given (keys_of kind) entries (defaults_fit kind) read.1.0
 
 -- the key of a name among some keys
 abbrev pub key_named : KeyName → List Key → Option Key

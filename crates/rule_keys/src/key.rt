@@ -79,7 +79,7 @@ pub enum Choice {
 }
 
 /// What a word of a list means.
-#[derive(Clone, Copy)]
+#[derive(Clone, Copy, PartialEq, Eq)]
 pub enum Chosen {
     /// A form of time.
     Form(TimeForm),
