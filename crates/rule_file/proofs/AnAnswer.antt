@@ -25,6 +25,7 @@ use Rattle.rule_file.specs.Meaning.{Entries, scale_of, IsFormatOf}
 use Rattle.rule_file.specs.Toml.{IsToml}
 use Rattle.rule_file.proofs.Built.{Good, format_built, rules_built, all_good, as_many}
 use Rattle.rule_file.proofs.Steps.{Tables, kind_first}
+use Rattle.words.proofs.Lists.{all_append}
 
 -- ---- the tables of a file
 
@@ -42,14 +43,10 @@ have_member scale kind (boolean b) items has all = tt
 have_member scale kind (datetime t) items has all = tt
 have_member scale kind (array rows) items has all = tt
 
-append_all : {A : Type 0} (P : A → Type 0) (xs ys : List A) → AllByRecursion P xs → AllByRecursion P ys → AllByRecursion P (xs ++ ys)
-append_all P [] ys first second = second
-append_all P (x ∷ xs) ys first second = (first.0, append_all P xs ys first.1 second)
-
 have_joined : (scale : Scale) (first second : Option Tables) → AllHave scale first → AllHave scale second → AllHave scale (joined first second)
 have_joined scale None second p q = tt
 have_joined scale (Some xs) None p q = tt
-have_joined scale (Some xs) (Some ys) p q = append_all (HasAnswer scale) xs ys p q
+have_joined scale (Some xs) (Some ys) p q = all_append (HasAnswer scale) xs ys p q
 
 pub have_kind : (scale : Scale) (kinds : List TableKind) (i : ℕ) (file : Members) (value : Option Data) → i < length kinds
     → value ≡ get_member (kind_text (get_or kinds i Format)) file → AllHave scale (tables_of (get_or kinds i Format) value)
@@ -88,9 +85,9 @@ have_tables entries (Some tables) fit all =
     elim (cases_lt MOST_RULES (length tables)) [
       | inl many ↦ (Err (of_the_file TooMany), inl (many, refl))
       | inr few ↦
-      let (read, reads) = have_rules (scale_of entries) 1 tables all in
-      let (answer, is) = have_read entries tables read fit few reads in
-      (answer, inr (few, is))
+          let (read, reads) = have_rules (scale_of entries) 1 tables all in
+          let (answer, is) = have_read entries tables read fit few reads in
+          (answer, inr (few, is))
     ]
 
 -- ---- the file

@@ -253,12 +253,12 @@ rules_built format read all few =
           zip_length IsRange (of_kind table.Range read) ranges are_ranges,
           zip_length IsTrust (of_kind table.Trust read) trusts are_trusts,
           zip_length IsWeight (of_kind table.Weight read) weights are_weights,
-          zip_length IsBetween (of_kind table.Between read) betweens are_betweens
+          zip_length IsBetween (of_kind table.Between read) betweens are_betweens,
         );
         speed_reach = All-from_recursion (λ (rule : SpeedRule). AreInReach d rule.min rule.max rule.window) speeds
-        (carried IsSpeed (PassesAll d table.Speed) (λ (rule : SpeedRule). AreInReach d rule.min rule.max rule.window) (speed_reaches d) (of_kind table.Speed read) speeds are_speeds (of_speeds (PassesAll d) read passes));
+            (carried IsSpeed (PassesAll d table.Speed) (λ (rule : SpeedRule). AreInReach d rule.min rule.max rule.window) (speed_reaches d) (of_kind table.Speed read) speeds are_speeds (of_speeds (PassesAll d) read passes));
         drift_reach = All-from_recursion (λ (rule : DriftRule). AreInReach d rule.min rule.max rule.window) drifts
-        (carried IsDrift (PassesAll d table.Drift) (λ (rule : DriftRule). AreInReach d rule.min rule.max rule.window) (drift_reaches d) (of_kind table.Drift read) drifts are_drifts (of_drifts (PassesAll d) read passes));
+            (carried IsDrift (PassesAll d table.Drift) (λ (rule : DriftRule). AreInReach d rule.min rule.max rule.window) (drift_reaches d) (of_kind table.Drift read) drifts are_drifts (of_drifts (PassesAll d) read passes));
       },
       refl,
       record {

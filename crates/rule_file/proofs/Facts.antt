@@ -85,7 +85,7 @@ format_limits entries fit = record {
   form = is_meant (λ m. IsSome (form_in m)) (words choice.Form) _ (refl, (refl, (refl, (refl, (refl, (refl, tt)))))) (entry_fits Form (keys_of table.Format) entries _ refl (λ lacks. lacks) fit);
   separator = is_meant (λ m. IsSome (separator_in m)) (words choice.Separator) _ (refl, (refl, (refl, (refl, tt)))) (entry_fits Separator (keys_of table.Format) entries _ refl (λ lacks. lacks) fit);
   separator_is = is_meant (λ m. (c : ℕ) → separator_in m ≡ Some c → IsTrue (is_separator c)) (words choice.Separator) _ (is_one 44 refl, (is_one 59 refl, (is_one 9 refl, (is_one 124 refl, tt))))
-  (entry_fits Separator (keys_of table.Format) entries _ refl (λ lacks. lacks) fit);
+      (entry_fits Separator (keys_of table.Format) entries _ refl (λ lacks. lacks) fit);
   extra = is_meant (λ m. IsSome (extra_in m)) (words choice.Extra) _ (refl, (refl, tt)) (entry_fits Extra (keys_of table.Format) entries _ refl (λ lacks. lacks) fit);
   hold = number_within Hold (pos 1) (pos MOST_HOLD) (keys_of table.Format) entries _ refl (λ lacks. lacks) (λ m h. h) fit;
 }

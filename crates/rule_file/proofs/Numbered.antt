@@ -115,7 +115,12 @@ single_length rules =
     omega (
       arith,
       length_of_six (map speed rules.speeds) (map swing rules.swings) (map drift rules.drifts) (map range rules.ranges) (map trust rules.trusts) (map weight rules.weights),
-      length-map rules.speeds speed, length-map rules.swings swing, length-map rules.drifts drift, length-map rules.ranges range, length-map rules.trusts trust, length-map rules.weights weight
+      length-map rules.speeds speed,
+      length-map rules.swings swing,
+      length-map rules.drifts drift,
+      length-map rules.ranges range,
+      length-map rules.trusts trust,
+      length-map rules.weights weight,
     )
 
 -- also past the end
@@ -262,7 +267,7 @@ sensors_length rules =
       length-append (sensors_from 1 (singles rules)) (sensors_from (1 + length (singles rules)) (map between rules.betweens)),
       singles_length 1 (singles rules) (singles_single rules),
       pairs_length (1 + length (singles rules)) rules.betweens,
-      single_length rules
+      single_length rules,
     )
 
 pub sensor_single : (rules : Rules) (i number : ℕ) → i < count_before kind.Between rules → number ≡ suc i

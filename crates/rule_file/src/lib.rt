@@ -25,7 +25,8 @@ pub use fault::{RuleCause, RuleFault};
 pub use numbers::{NamedSensor, RuleAt, rules_are_numbered};
 pub use read::{LONGEST, one_answer, read_rules};
 pub use rules::{
-    BetweenList, BetweenRule, DriftList, DriftRule, Format, MOST_RULES, Name, RangeList, RangeRule, Rules,
-    SpeedList, SpeedRule, SwingList, SwingRule, TrustList, TrustRule, WeightList, WeightRule,
+    BetweenList, BetweenRule, DriftList, DriftRule, Format, MOST_RULES, Name, RangeList, RangeRule,
+    Rules, SpeedList, SpeedRule, SwingList, SwingRule, TrustList, TrustRule, WeightList,
+    WeightRule,
 };
 pub use tables::key_of;

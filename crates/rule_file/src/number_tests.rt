@@ -80,6 +80,9 @@ fn rules_and_sensors_by_number(rt: HostRuntime) -> Result<(), Fail> {
     for (number, place) in [(1, 0), (7, 6), (8, 7), (9, 9)] {
         assert_eq!(rt; rules.sensor_index(number), Some(place), "{number}");
     }
-    assert_eq!(rt; (rules.sensor_index(0), rules.sensor_index(10)), (None, None));
+    assert_eq!(rt;
+        (rules.sensor_index(0), rules.sensor_index(10)),
+        (None, None)
+    );
     Ok(())
 }

@@ -189,5 +189,4 @@ fn sensor_between(rule: &BetweenRule, second: bool) -> &[u8]
 /// rules.
 pub fn rules_are_numbered()
     ensures { (rules : Rules) → AreNumbered rules }
-{
-}
+{}

@@ -405,7 +405,9 @@ fn each_word_means_its_value(rt: HostRuntime) -> Result<(), Fail> {
         ),
     ];
     for (word, form, from, tick) in forms {
-        let text = format!(in rt.alloc(); "[format]\ndecimals = 0\nform = \"{word}\"\n[[trust]]\nsensor = \"x\"\nfrom = {from}\n")?;
+        let text = format!(in rt.alloc();
+            "[format]\ndecimals = 0\nform = \"{word}\"\n[[trust]]\nsensor = \"x\"\nfrom = {from}\n"
+        )?;
         let rules = read_rules(rt.alloc(), text.as_bytes())?;
         assert_eq!(rt; rules.format.form, form, "{word}");
         let trust = (b"x".as_slice(), tick, LAST);
@@ -450,7 +452,12 @@ fn each_cause_once(rt: HostRuntime) -> Result<(), Fail> {
             "{other}"
         );
     }
-    let many = file_of(rt.alloc(), 1000, "[[trust]]\nsensor = \"x\"\n", "[[range]]\n")?;
+    let many = file_of(
+        rt.alloc(),
+        1000,
+        "[[trust]]\nsensor = \"x\"\n",
+        "[[range]]\n",
+    )?;
     assert_eq!(rt; fault_of(rt.alloc(), many.as_str()), fault(TooMany, 0));
     let long = base_of_length(rt.alloc(), 1_048_577)?;
     assert_eq!(rt;
