@@ -18,7 +18,10 @@ pub fn measure<R: Runtime + AllocGlobal>(rt: &R) -> io::Result<()> {
     let began = Instant::now(rt)?;
     let written = written(rt.alloc())?;
     let nanos = began.elapsed(rt)?.as_nanos();
-    println!(rt; "{} {written}", nanos.saturating_mul(1000) / u128::from(TEXTS))
+    println!(rt;
+        "{} {written}",
+        nanos.saturating_mul(1000) / u128::from(TEXTS)
+    )
 }
 
 /// Writes the numbers, and counts the bytes.

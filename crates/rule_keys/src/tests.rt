@@ -5,8 +5,8 @@ use crate::KeyCause::{
     BadNumber, MissingKey, Order, OutOfLimit, ReachTooLarge, SameSensor, UnknownKey, WrongKind,
 };
 use crate::KeyName::{
-    Decimals, First, Form, From, Hold, Max, Min, Most, Over, Per, Price, Second, Sensor, To, Weight,
-    Window,
+    Decimals, First, Form, From, Hold, Max, Min, Most, Over, Per, Price, Second, Sensor, To,
+    Weight, Window,
 };
 use crate::{
     Choice, KeyCause, KeyName, Scale, TableKind, an_answer, key_text, keys_of, read_table, words_of,
