@@ -5,8 +5,8 @@ use Rattle.record_cut.specs.Bytes.{is_separator}
 use Rattle.record_cut.specs.Drafted.{Drafted}
 use Rattle.record_cut.specs.Field.{Piece, led_by, led_if_any, quoted, plain, after_field}
 use Rattle.record_cut.specs.Record.{RecordAt, Whole, Bad, Ends, by_what_follows, by_field, record_at}
-use Rattle.record_cut.specs.Records.{Cut, Fault, behind, only, by_record}
-use Rattle.record_cut.specs.Reading.{continued, from_plain, from_quoted, from_closed}
+use Rattle.record_cut.specs.Records.{Cut, Fault, with_records, only, by_record}
+use Rattle.record_cut.specs.Resumed.{continued, from_plain, from_quoted, from_closed}
 use Rattle.record_cut.specs.declared.fault.CutFault.TheVariants.{BadQuote, RecordTooLong}
 use Rattle.record_cut.specs.declared.phase.Place.{Place}
 use Rattle.record_cut.specs.declared.phase.Place.TheVariants.{Field, Plain, PlainCr, Quoted, QuoteInQuoted, ClosedCr}
@@ -14,15 +14,15 @@ use Rattle.record_cut.proofs.Grammar.{quoted-two, quoted-nil}
 use Rattle.record_cut.proofs.Within.{RecordWithin, RecordWithin-with, PieceWithin, GoesWithin, record-within, by_field-within, follows-within, plain-within, quoted-within, after-within}
 use Rattle.record_cut.proofs.Steps.{plain_cr-at_line_feed, plain_cr-goes, quote-closes, closed_cr-at_line_feed, closed_cr-at_other}
 
-pub behind-nil : (cut : Cut) → behind [] cut ≡ cut
-behind-nil cut = refl
+pub with_no_records : (cut : Cut) → with_records [] cut ≡ cut
+with_no_records cut = refl
 
-pub behind-behind : (first second : List (List (List ℕ))) (cut : Cut) → behind first (behind second cut) ≡ behind (first ++ second) cut
-behind-behind first second cut = ap (λ records. record { records = records; onward = cut.onward }) (sym (append_assoc first second cut.records))
+pub with_records-twice : (first second : List (List (List ℕ))) (cut : Cut) → with_records first (with_records second cut) ≡ with_records (first ++ second) cut
+with_records-twice first second cut = ap (λ records. record { records = records; onward = cut.onward }) (sym (append_assoc first second cut.records))
 
 -- a record that ends, is wrong or goes on at the byte after the first `count`
 
-pub by_whole : (more : List ℕ → Cut) (all count byte : ℕ) (rest : List ℕ) (fields : List (List ℕ)) → count < 65536 → by_record more all (count + length (byte ∷ rest)) (Whole fields rest) ≡ behind (fields ∷ []) (more rest)
+pub by_whole : (more : List ℕ → Cut) (all count byte : ℕ) (rest : List ℕ) (fields : List (List ℕ)) → count < 65536 → by_record more all (count + length (byte ∷ rest)) (Whole fields rest) ≡ with_records (fields ∷ []) (more rest)
 by_whole more all count byte rest fields h =
     let short : nat_lt 65536 (count + length (byte ∷ rest) - length rest) ≡ false = le-ltb 65536 (count + length (byte ∷ rest) - length rest) (omega arith) in
     rw short refl

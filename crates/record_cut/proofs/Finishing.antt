@@ -4,8 +4,8 @@ use Rattle.std.proofs.lemmas.List.{append-nil}
 use Rattle.record_cut.specs.Bytes.{is_separator}
 use Rattle.record_cut.specs.Drafted.{Drafted}
 use Rattle.record_cut.specs.Record.{Unended, Nothing as NoRecord, Fields, OpenField, CrAfterQuote}
-use Rattle.record_cut.specs.Records.{Cut, Rest, behind, only, text_from, records}
-use Rattle.record_cut.specs.Reading.{resumed, Fits}
+use Rattle.record_cut.specs.Records.{Cut, Rest, with_records, only, text_from, records}
+use Rattle.record_cut.specs.Resumed.{resumed, Fits}
 use Rattle.record_cut.specs.Moves.{Leaves}
 use Rattle.record_cut.specs.StandsFor.{StandsFor, HasBegun, Finishes, Ends}
 use Rattle.record_cut.specs.declared.fault.CutFault.{CutFault}
@@ -33,7 +33,7 @@ fresh new sep same begun =
     record {
       separator = same;
       fits = subst F (sym begun.phase) begun.only;
-      follows = λ more. records-all sep more ∙ begun-input sep (length more) new more begun ∙ ap (λ first. behind first (resumed sep new.phase new.draft new.count (length more) more)) (sym (none-yet sep));
+      follows = λ more. records-all sep more ∙ begun-input sep (length more) new more begun ∙ ap (λ first. with_records first (resumed sep new.phase new.draft new.count (length more) more)) (sym (none-yet sep));
     }
 
 pub left-is : (old : Cutter) (bytes : List ℕ) (left : Unended) → StandsFor old old.sep bytes → ((all : ℕ) → resumed old.sep old.phase old.draft old.count all [] ≡ only (Rest left)) → (records old.sep bytes).onward ≡ Rest left

@@ -6,7 +6,7 @@ use Rattle.words.proofs.Texts.{or_right}
 use Rattle.record_cut.specs.Bytes.{is_separator, after_line_break}
 use Rattle.record_cut.specs.Field.{led_by, led_if_any, quoted, ends_plain, plain, field_at}
 use Rattle.record_cut.specs.Record.{Nothing, Whole, with_fields, record_at}
-use Rattle.record_cut.specs.Records.{Cut, Rest, behind, by_record, records_from, without_mark, records}
+use Rattle.record_cut.specs.Records.{Cut, Rest, with_records, by_record, records_from, without_mark, records}
 use Rattle.record_cut.specs.Row.{holds_special, begins_with_mark, doubled, doubled_if_quote, field_text, first_in_quotes, text_of_others, text_of_row}
 use Rattle.record_cut.specs.RoundTrip.{text_of_rows, AreWithinLimits, RoundTrip}
 use Rattle.record_cut.proofs.Grammar.{other_byte, plain-other, quoted-two, quoted-close, quoted-other, field-quote, field-other, after-sep, after-line_feed, other-no_break}
@@ -192,7 +192,7 @@ row-begins sep (field ∷ others) rest is some = subst Begins (sym (row-parts se
 
 -- rows
 
-by_row : (more : List ℕ → Cut) (all size : ℕ) (row : List (List ℕ)) (rest : List ℕ) → size - length rest ≤ 65536 → by_record more all size (Whole row rest) ≡ behind (row ∷ []) (more rest)
+by_row : (more : List ℕ → Cut) (all size : ℕ) (row : List (List ℕ)) (rest : List ℕ) → size - length rest ≤ 65536 → by_record more all size (Whole row rest) ≡ with_records (row ∷ []) (more rest)
 by_row more all size row rest h =
     let short : nat_lt 65536 (size - length rest) ≡ false = le-ltb 65536 (size - length rest) h in
     rw short refl
@@ -205,7 +205,7 @@ rows-back sep all (row ∷ rows) is within =
     let b = row-begins sep row rest is within.0 in
     let read : record_at sep (b.first ∷ b.tail) ≡ Whole row rest = ap (record_at sep) (sym b.is) ∙ row-back sep row rest is within.0 in
     let long : length bytes - length rest ≤ 65536 = omega (arith, length-append (text_of_row sep row) rest, within.1) in
-    ap (records_from sep all) b.is ∙ line-read sep all b.first (length bytes) b.tail (Whole row rest) b.no_break (ap length b.is) read ∙ by_row (records_from sep all) all (length bytes) row rest long ∙ ap (behind (row ∷ [])) (rows-back sep all rows is within.2)
+    ap (records_from sep all) b.is ∙ line-read sep all b.first (length bytes) b.tail (Whole row rest) b.no_break (ap length b.is) read ∙ by_row (records_from sep all) all (length bytes) row rest long ∙ ap (with_records (row ∷ [])) (rows-back sep all rows is within.2)
 
 rows-unmarked : (sep : ℕ) (rows : List (List (List ℕ))) → IsTrue (is_separator sep) → AreWithinLimits sep rows → without_mark (text_of_rows sep rows) ≡ text_of_rows sep rows
 rows-unmarked sep [] is within = no_mark-nil

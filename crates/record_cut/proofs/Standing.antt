@@ -4,8 +4,8 @@ use Rattle.std.proofs.lemmas.List.{append-nil}
 use Rattle.record_cut.specs.Bytes.{is_separator}
 use Rattle.record_cut.specs.Drafted.{Drafted}
 use Rattle.record_cut.specs.Record.{Whole, Bad}
-use Rattle.record_cut.specs.Records.{Cut, Fault, Rest, behind, only, by_record, records_from, records}
-use Rattle.record_cut.specs.Reading.{continued, resumed, Fits, FitsPlace}
+use Rattle.record_cut.specs.Records.{Cut, Fault, Rest, with_records, only, by_record, records_from, records}
+use Rattle.record_cut.specs.Resumed.{continued, resumed, Fits, FitsPlace}
 use Rattle.record_cut.specs.Moves.{GoesTo, Moves, Opens}
 use Rattle.record_cut.specs.StandsFor.{StandsFor, HasBegun, HasNoFault, GoesOn, FailsAt, Feeds}
 use Rattle.record_cut.specs.declared.fault.CutFault.{CutFault}
@@ -18,26 +18,26 @@ use Rattle.record_cut.specs.declared.phase.Move.TheVariants.{To, EndRecord}
 use Rattle.record_cut.specs.declared.phase.Opening.{Opening}
 use Rattle.record_cut.specs.declared.phase.Opening.TheVariants.{Read, Keep, Skip, Refuse}
 use Rattle.record_cut.specs.declared.cutter.Cutter.{Cutter}
-use Rattle.record_cut.proofs.Cuts.{behind-behind, by_whole, by_bad, by_long, one-left}
+use Rattle.record_cut.proofs.Cuts.{with_records-twice, by_whole, by_bad, by_long, one-left}
 use Rattle.record_cut.proofs.Endings.{quiet}
 
 -- the records before these bytes, and what comes of the next byte and the rest
 abbrev pub Resumes : ℕ → Cutter → ℕ → List (List (List ℕ)) → Cutter → Type 0
-Resumes sep old byte added new = (all : ℕ) (more : List ℕ) → resumed sep old.phase old.draft old.count all (byte ∷ more) ≡ behind added (resumed sep new.phase new.draft new.count all more)
+Resumes sep old byte added new = (all : ℕ) (more : List ℕ) → resumed sep old.phase old.draft old.count all (byte ∷ more) ≡ with_records added (resumed sep new.phase new.draft new.count all more)
 
-now-is : (old new : Cutter) (sep byte : ℕ) (bytes more : List ℕ) (added : List (List (List ℕ))) → StandsFor old sep bytes → Resumes sep old byte added new → records sep (bytes ++ byte ∷ more) ≡ behind ((records sep bytes).records ++ added) (resumed sep new.phase new.draft new.count (length (bytes ++ byte ∷ more)) more)
+now-is : (old new : Cutter) (sep byte : ℕ) (bytes more : List ℕ) (added : List (List (List ℕ))) → StandsFor old sep bytes → Resumes sep old byte added new → records sep (bytes ++ byte ∷ more) ≡ with_records ((records sep bytes).records ++ added) (resumed sep new.phase new.draft new.count (length (bytes ++ byte ∷ more)) more)
 now-is old new sep byte bytes more added stands step =
-    stands.follows (byte ∷ more) ∙ ap (behind (records sep bytes).records) (step (length (bytes ++ byte ∷ more)) more) ∙ behind-behind (records sep bytes).records added (resumed sep new.phase new.draft new.count (length (bytes ++ byte ∷ more)) more)
+    stands.follows (byte ∷ more) ∙ ap (with_records (records sep bytes).records) (step (length (bytes ++ byte ∷ more)) more) ∙ with_records-twice (records sep bytes).records added (resumed sep new.phase new.draft new.count (length (bytes ++ byte ∷ more)) more)
 
-follows-on : (old new : Cutter) (sep byte : ℕ) (bytes more : List ℕ) (added : List (List (List ℕ))) → StandsFor old sep bytes → Resumes sep old byte added new → (records sep (bytes ++ byte ∷ [])).records ≡ (records sep bytes).records ++ added → records sep ((bytes ++ byte ∷ []) ++ more) ≡ behind (records sep (bytes ++ byte ∷ [])).records (resumed sep new.phase new.draft new.count (length ((bytes ++ byte ∷ []) ++ more)) more)
+follows-on : (old new : Cutter) (sep byte : ℕ) (bytes more : List ℕ) (added : List (List (List ℕ))) → StandsFor old sep bytes → Resumes sep old byte added new → (records sep (bytes ++ byte ∷ [])).records ≡ (records sep bytes).records ++ added → records sep ((bytes ++ byte ∷ []) ++ more) ≡ with_records (records sep (bytes ++ byte ∷ [])).records (resumed sep new.phase new.draft new.count (length ((bytes ++ byte ∷ []) ++ more)) more)
 follows-on old new sep byte bytes more added stands step grown =
-    let P : List ℕ → Type 0 = λ text. records sep text ≡ behind (records sep (bytes ++ byte ∷ [])).records (resumed sep new.phase new.draft new.count (length text) more) in
-    subst P (sym (append_assoc bytes (byte ∷ []) more)) (now-is old new sep byte bytes more added stands step ∙ ap (λ first. behind first (resumed sep new.phase new.draft new.count (length (bytes ++ byte ∷ more)) more)) (sym grown))
+    let P : List ℕ → Type 0 = λ text. records sep text ≡ with_records (records sep (bytes ++ byte ∷ [])).records (resumed sep new.phase new.draft new.count (length text) more) in
+    subst P (sym (append_assoc bytes (byte ∷ []) more)) (now-is old new sep byte bytes more added stands step ∙ ap (λ first. with_records first (resumed sep new.phase new.draft new.count (length (bytes ++ byte ∷ more)) more)) (sym grown))
 
 pub goes-on : (old new : Cutter) (sep byte : ℕ) (bytes : List ℕ) (added : List (List (List ℕ))) → IsTrue (is_separator sep) → StandsFor old sep bytes → new.sep ≡ old.sep → Fits new.phase new.draft new.count → new.count ≤ 65536 → Resumes sep old byte added new → GoesOn sep bytes byte added new
 goes-on old new sep byte bytes added is stands same fits short step =
     let still = quiet sep new.count new.phase new.draft is short fits (length (bytes ++ byte ∷ [])) in
-    let here : records sep (bytes ++ byte ∷ []) ≡ behind ((records sep bytes).records ++ added) (only (Rest still.left)) = now-is old new sep byte bytes [] added stands step ∙ ap (behind ((records sep bytes).records ++ added)) still.only_rest in
+    let here : records sep (bytes ++ byte ∷ []) ≡ with_records ((records sep bytes).records ++ added) (only (Rest still.left)) = now-is old new sep byte bytes [] added stands step ∙ ap (with_records ((records sep bytes).records ++ added)) still.only_rest in
     let grown : (records sep (bytes ++ byte ∷ [])).records ≡ (records sep bytes).records ++ added = ap (λ (c : Cut). c.records) here ∙ append-nil ((records sep bytes).records ++ added) in
     record {
       stands = record { separator = same ∙ stands.separator; fits = fits; follows = λ more. follows-on old new sep byte bytes more added stands step grown };
@@ -47,7 +47,7 @@ goes-on old new sep byte bytes added is stands same fits short step =
 
 pub fails-at : (old : Cutter) (sep byte : ℕ) (bytes : List ℕ) (fault : CutFault) → StandsFor old sep bytes → ((all : ℕ) → resumed sep old.phase old.draft old.count all (byte ∷ []) ≡ only (Fault fault (all - 1))) → FailsAt sep bytes byte fault
 fails-at old sep byte bytes fault stands step =
-    let here : records sep (bytes ++ byte ∷ []) ≡ behind (records sep bytes).records (only (Fault fault (length (bytes ++ byte ∷ []) - 1))) = stands.follows (byte ∷ []) ∙ ap (behind (records sep bytes).records) (step (length (bytes ++ byte ∷ []))) in
+    let here : records sep (bytes ++ byte ∷ []) ≡ with_records (records sep bytes).records (only (Fault fault (length (bytes ++ byte ∷ []) - 1))) = stands.follows (byte ∷ []) ∙ ap (with_records (records sep bytes).records) (step (length (bytes ++ byte ∷ []))) in
     let at : length (bytes ++ byte ∷ []) - 1 ≡ length bytes = omega (arith, length-append bytes (byte ∷ [])) in
     record {
       same = ap (λ (c : Cut). c.records) here ∙ append-nil (records sep bytes).records;
@@ -104,7 +104,7 @@ fed-end old new byte bytes place move draft fields tells moves is e short same b
     let opens : Opens old.sep old.phase old.draft old.count byte (Read place) = tells old.sep old.draft old.count old.separates stands.fits in
     let P : Move → Type 0 = λ m. Moves old.sep place old.draft byte (Ok m) draft in
     let ended : Moves old.sep place old.draft byte (Ok EndRecord) draft = subst P is (moves opens.0) in
-    let step : Resumes old.sep old byte (fields ∷ []) new = λ all more. opens.1 all more ∙ ap (by_record (records_from old.sep all) all (old.count + length (byte ∷ more))) (ended more ∙ ap (λ f. Whole f more) (sym e)) ∙ by_whole (records_from old.sep all) all old.count byte more fields short ∙ ap (behind (fields ∷ [])) (begun-resumes old.sep all new more begun) in
+    let step : Resumes old.sep old byte (fields ∷ []) new = λ all more. opens.1 all more ∙ ap (by_record (records_from old.sep all) all (old.count + length (byte ∷ more))) (ended more ∙ ap (λ f. Whole f more) (sym e)) ∙ by_whole (records_from old.sep all) all old.count byte more fields short ∙ ap (with_records (fields ∷ [])) (begun-resumes old.sep all new more begun) in
     goes-on old new old.sep byte bytes (fields ∷ []) old.separates stands same (begun-fits new begun) new.short step
 
 pub fed-skip : (old new : Cutter) (byte : ℕ) (bytes : List ℕ) → Tells old.phase byte Skip → new.sep ≡ old.sep → HasBegun Record new → StandsFor old old.sep bytes → GoesOn old.sep bytes byte [] new
