@@ -42,8 +42,8 @@ ended sep bytes = record { records = (records sep bytes).records ++ last_record 
 
 -- after a fault at a byte nothing changes, whatever follows and wherever the text ends
 pub record Stays (sep : ℕ) (bytes more : List ℕ) : Type 0 where
-  pub so_far : so_far sep (bytes ++ more) ≡ so_far sep bytes
-  pub ended : ended sep (bytes ++ more) ≡ so_far sep bytes
+  pub may_go_on : so_far sep (bytes ++ more) ≡ so_far sep bytes
+  pub has_ended : ended sep (bytes ++ more) ≡ so_far sep bytes
 
 -- a fault at a byte holds whatever follows
 abbrev pub FaultsStay : Type 0

@@ -46,14 +46,14 @@ taken_after fault (byte ∷ rest) = record { count = 1; answer = Err fault }
 
 -- the end of these bytes ends these records and is not refused, and the cutter stands for the empty text again
 pub record Finishes (sep : ℕ) (bytes : List ℕ) (last : List (List (List ℕ))) (cutter : Cutter) : Type 0 where
-  pub so_far : (so_far sep bytes).fault ≡ None
-  pub ended : ended sep bytes ≡ record { records = (so_far sep bytes).records ++ last; fault = None }
+  pub no_fault : (so_far sep bytes).fault ≡ None
+  pub whole : ended sep bytes ≡ record { records = (so_far sep bytes).records ++ last; fault = None }
   pub stands : StandsFor cutter sep []
 
 -- the fault stands at the end of these bytes, and at none of them
 pub record FailsAtEnd (sep : ℕ) (bytes : List ℕ) (fault : CutFault) : Type 0 where
-  pub so_far : (so_far sep bytes).fault ≡ None
-  pub ended : ended sep bytes ≡ record { records = (so_far sep bytes).records; fault = Some fault }
+  pub no_fault : (so_far sep bytes).fault ≡ None
+  pub whole : ended sep bytes ≡ record { records = (so_far sep bytes).records; fault = Some fault }
 
 -- the answer to the end of the text after these bytes
 abbrev pub Ends : ℕ → List ℕ → Result (Option (List (List ℕ))) CutFault → Cutter → Type 0
