@@ -6,6 +6,7 @@ pub mod Grammar
 pub mod Openings
 pub mod RoundTrip
 pub mod Rows
+pub mod Runs
 pub mod Splits
 pub mod Standing
 pub mod Steps

@@ -2,10 +2,14 @@
 use Rattle.std.specs.Prelude.{ℕ, ◌==◌, ◌||◌, ◌&&◌, Bool, false, List, [], ◌∷◌, ◌++◌, length, if◌then◌else◌}
 use Rattle.record_cut.specs.Bytes.{quote, line_feed, carriage_return}
 
--- the field holds a separator, a quote or a byte of a line break
+-- a separator, a quote or a byte of a line break
+abbrev pub is_special : ℕ → ℕ → Bool
+is_special sep byte = byte == sep || byte == quote || byte == carriage_return || byte == line_feed
+
+-- the field holds such a byte
 abbrev pub holds_special : ℕ → List ℕ → Bool
 holds_special sep [] = false
-holds_special sep (byte ∷ rest) = (byte == sep || byte == quote || byte == carriage_return || byte == line_feed) || holds_special sep rest
+holds_special sep (byte ∷ rest) = is_special sep byte || holds_special sep rest
 
 abbrev pub begins_with_mark : List ℕ → Bool
 begins_with_mark (first ∷ second ∷ third ∷ rest) = first == 239 && second == 187 && third == 191

@@ -68,7 +68,8 @@ impl Draft {
         ensures size { size_of self.new ≤ size_of self.old + length bytes.now }
         ensures err { OnErr result (size_of self.new ≡ size_of self.old) }
     {
-        self.bytes.extend_from_slice(bytes)
+        self.bytes.extend_from_slice(bytes)?;
+        Ok(())
     }
 
     /// Ends the field.
