@@ -1,6 +1,6 @@
 //! The texts of records.
 
-ghost use Rattle.std.specs.Prelude.{◌≡◌, ◌<◌, [], ◌∷◌, ◌++◌, length, drop, IfOk, OnOk, OnErr};
+ghost use Rattle.std.specs.Prelude.{◌≡◌, ◌<◌, ◌≤◌, [], ◌∷◌, ◌++◌, length, drop, IfOk, OnOk};
 ghost use Rattle.record_cut.specs.Bytes.{line_feed};
 ghost use Rattle.record_cut.specs.Row.{holds_special, begins_with_mark, doubled, field_text, first_in_quotes, text_of_first, text_of_next, text_of_others, text_of_row};
 
@@ -19,18 +19,15 @@ pub fn row_text(alloc: Global, fields: &Fields, sep: u8) -> Result<Vec<u8>, Allo
     Ok(text)
 }
 
-/// Adds the text of `row_text` at the end. Where memory runs out the text stays as it was.
+/// Adds the text of `row_text` at the end. Where memory runs out, a part of it may have been added.
 pub fn push_row(text: &mut Vec<u8>, fields: &Fields, sep: u8) -> Result<(), AllocError>
     requires { 0 < length fields.now }
-    ensures ok { OnOk result (text.new.items ≡ text.old.items ++ text_of_row sep fields.now) }
-    ensures err { OnErr result (text.new.items ≡ text.old.items) }
+    ensures { OnOk result (text.new.items ≡ text.old.items ++ text_of_row sep fields.now) }
 {
-    let len = text.len();
-    let pushed = push_fields(text, fields, sep);
-    if pushed.is_err() {
-        text.truncate(len);
-    }
-    pushed
+    text.reserve(fields.size().saturating_add(fields.width() as usize))?;
+    push_first_field(text, fields.at(0), fields.width(), sep)?;
+    push_others(text, fields, sep)?;
+    Ok(())
 }
 
 /// Adds the first field of a row of so many, as it stands in the text of the row. A row is written by this
@@ -55,7 +52,8 @@ pub fn push_next_field(text: &mut Vec<u8>, field: &[u8], sep: u8) -> Result<(), 
     ensures { OnOk result (text.new.items ≡ text.old.items ++ text_of_next sep field.now) }
 {
     text.push(sep)?;
-    push_field(text, field, holds_special(field, sep))
+    push_field(text, field, holds_special(field, sep))?;
+    Ok(())
 }
 
 /// Adds the line feed at the end of a row.
@@ -66,16 +64,6 @@ pub fn end_row(text: &mut Vec<u8>) -> Result<(), AllocError>
     Ok(())
 }
 
-/// Adds all fields and the line feed.
-fn push_fields(text: &mut Vec<u8>, fields: &Fields, sep: u8) -> Result<(), AllocError>
-    requires { 0 < length fields.now }
-    ensures { OnOk result (text.new.items ≡ text.old.items ++ text_of_row sep fields.now) }
-{
-    text.reserve(fields.size().saturating_add(fields.width() as usize))?;
-    push_first_field(text, fields.at(0), fields.width(), sep)?;
-    push_others(text, fields, sep)
-}
-
 /// Adds the fields after the first, each after a separator, and the line feed.
 fn push_others(text: &mut Vec<u8>, fields: &Fields, sep: u8) -> Result<(), AllocError>
     requires { 0 < length fields.now }
@@ -84,7 +72,8 @@ fn push_others(text: &mut Vec<u8>, fields: &Fields, sep: u8) -> Result<(), Alloc
     for i in 1..fields.width() {
         push_next_field(text, fields.at(i), sep)?;
     }
-    end_row(text)
+    end_row(text)?;
+    Ok(())
 }
 
 /// Whether the first field of so many is written in quotes.
@@ -132,13 +121,25 @@ fn push_doubled(text: &mut Vec<u8>, field: &[u8]) -> Result<(), AllocError>
 {
     let mut from = 0;
     while from < field.len() {
-        let rest = &field[from..];
-        let run = before_quote(rest);
-        text.extend_from_slice(&rest[..run])?;
-        if run < rest.len() {
-            text.extend_from_slice(&[QUOTE, QUOTE])?;
-        }
-        from += run + 1;
+        from += push_to_quote(text, &field[from..])?;
     }
     Ok(())
+}
+
+/// Adds the bytes up to the first quote, and that quote twice, and says how many bytes of the field these
+/// are.
+fn push_to_quote(text: &mut Vec<u8>, field: &[u8]) -> Result<usize, AllocError>
+    requires { 0 < length field.now }
+    ensures some { IfOk result (λ count. 0 < count) }
+    ensures within { IfOk result (λ count. count ≤ length field.now) }
+    ensures pushed { IfOk result (λ count.
+        text.new.items ++ doubled (drop count field.now) ≡ text.old.items ++ doubled field.now) }
+{
+    let run = before_quote(field);
+    text.extend_from_slice(&field[..run])?;
+    if run == field.len() {
+        return Ok(run);
+    }
+    text.extend_from_slice(&[QUOTE, QUOTE])?;
+    Ok(run + 1)
 }
