@@ -5,6 +5,8 @@ pub mod Finishing
 pub mod Grammar
 pub mod Openings
 pub mod RoundTrip
+pub mod Passed
+pub mod Pieces
 pub mod Rows
 pub mod Runs
 pub mod Splits

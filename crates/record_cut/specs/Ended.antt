@@ -2,7 +2,7 @@
 use Rattle.std.specs.Prelude.{◌≡◌, ℕ, IsTrue, List, [], ◌∷◌, ◌++◌, Option, Some, None}
 use Rattle.record_cut.specs.Bytes.{is_separator}
 use Rattle.record_cut.specs.Record.{Nothing, Fields, OpenField, CrAfterQuote}
-use Rattle.record_cut.specs.Records.{Onward, Fault, Rest, records}
+use Rattle.record_cut.specs.Records.{Onward, Fault, Rest, Cut, records}
 use Rattle.record_cut.specs.declared.fault.CutFault.{CutFault}
 use Rattle.record_cut.specs.declared.fault.CutFault.TheVariants.{BadQuote, OpenQuote}
 
@@ -32,13 +32,19 @@ fault_at_all (Rest (Fields fields)) = None
 fault_at_all (Rest OpenField) = Some OpenQuote
 fault_at_all (Rest CrAfterQuote) = Some BadQuote
 
+abbrev pub so_far_of : Cut → Ended
+so_far_of cut = record { records = cut.records; fault = fault_at_byte cut.onward }
+
+abbrev pub ended_of : Cut → Ended
+ended_of cut = record { records = cut.records ++ last_record cut.onward; fault = fault_at_all cut.onward }
+
 -- of a text that may go on: the records whose line break stands in it, and a fault at one of its bytes
 abbrev pub so_far : ℕ → List ℕ → Ended
-so_far sep bytes = record { records = (records sep bytes).records; fault = fault_at_byte (records sep bytes).onward }
+so_far sep bytes = so_far_of (records sep bytes)
 
 -- of a text that has ended
 abbrev pub ended : ℕ → List ℕ → Ended
-ended sep bytes = record { records = (records sep bytes).records ++ last_record (records sep bytes).onward; fault = fault_at_all (records sep bytes).onward }
+ended sep bytes = ended_of (records sep bytes)
 
 -- after a fault at a byte nothing changes, whatever follows and wherever the text ends
 pub record Stays (sep : ℕ) (bytes more : List ℕ) : Type 0 where

@@ -4,7 +4,7 @@ ghost use Rattle.std.specs.Prelude.{◌+◌, ◌<◌, ◌≤◌, ◌^◌, ℕ, l
 ghost use Rattle.record_cut.specs.Bytes.{is_separator};
 ghost use Rattle.record_cut.specs.Drafted.{Drafted, size_of};
 ghost use Rattle.record_cut.specs.Resumed.{FitsPlace, Fits};
-ghost use Rattle.record_cut.specs.Moves.{Keeps, EndsField, Moves, Opens, RunsTo, Leaves};
+ghost use Rattle.record_cut.specs.Moves.{Keeps, EndsField, Moves, Opens, IsRun, RunsTo, Leaves};
 
 use crate::bytes::{CARRIAGE_RETURN, LINE_FEED, MARK, QUOTE, before_quote, before_special};
 use crate::draft::Draft;
@@ -76,11 +76,17 @@ pub(crate) fn run_at(place: Place, sep: u8, bytes: &[u8]) -> Option<Run>
     ensures within { IfSome result (λ run. run.len ≤ length bytes.now) }
     ensures runs { IfSome result (λ run. RunsTo sep place (take run.len bytes.now) run.next) }
 {
-    let (len, next) = match place {
-        Place::Field | Place::Plain => (before_special(bytes, sep), Place::Plain),
-        Place::Quoted => (before_quote(bytes), Place::Quoted),
-        Place::PlainCr | Place::QuoteInQuoted | Place::ClosedCr => return None,
-    };
+    match place {
+        Place::Field | Place::Plain => run_of(before_special(bytes, sep), Place::Plain),
+        Place::Quoted => run_of(before_quote(bytes), Place::Quoted),
+        Place::PlainCr | Place::QuoteInQuoted | Place::ClosedCr => None,
+    }
+}
+
+/// A run of so many bytes, if these are any.
+fn run_of(len: usize, next: Place) -> Option<Run>
+    ensures { IfSome result (IsRun len next) }
+{
     if len > 0 {
         Some(Run { len, next })
     } else {
@@ -109,9 +115,9 @@ pub(crate) fn read(draft: &mut Draft, sep: u8, place: Place, byte: u8) -> Result
 /// At the beginning of a field.
 fn at_field(draft: &mut Draft, sep: u8, byte: u8) -> Result<Move, CutFault>
     requires sep { IsTrue (is_separator sep) }
-    requires small { size_of draft.old < 2 ^ 31 }
+    requires small { size_of draft.old < 2 ^ 32 }
     ensures moves { FitsPlace Place.Field draft.old → Moves sep Place.Field draft.old byte result draft.new }
-    ensures size { size_of draft.new ≤ size_of draft.old + 2 }
+    ensures size { size_of draft.new ≤ size_of draft.old + 1 }
 {
     if byte == QUOTE {
         Ok(Move::To(Place::Quoted))
@@ -123,9 +129,9 @@ fn at_field(draft: &mut Draft, sep: u8, byte: u8) -> Result<Move, CutFault>
 /// In an unquoted field.
 fn in_plain(draft: &mut Draft, sep: u8, byte: u8) -> Result<Move, CutFault>
     requires sep { IsTrue (is_separator sep) }
-    requires small { size_of draft.old < 2 ^ 31 }
+    requires small { size_of draft.old < 2 ^ 32 }
     ensures moves { Moves sep Place.Plain draft.old byte result draft.new }
-    ensures size { size_of draft.new ≤ size_of draft.old + 2 }
+    ensures size { size_of draft.new ≤ size_of draft.old + 1 }
 {
     if byte == sep {
         return end_field(draft);
@@ -155,7 +161,7 @@ fn after_plain_cr(draft: &mut Draft, sep: u8, byte: u8) -> Result<Move, CutFault
 /// In a quoted field.
 fn in_quotes(draft: &mut Draft, byte: u8) -> Result<Move, CutFault>
     ensures moves { (sep : ℕ) → Moves sep Place.Quoted draft.old byte result draft.new }
-    ensures size { size_of draft.new ≤ size_of draft.old + 2 }
+    ensures size { size_of draft.new ≤ size_of draft.old + 1 }
 {
     if byte == QUOTE {
         Ok(Move::To(Place::QuoteInQuoted))
@@ -167,9 +173,9 @@ fn in_quotes(draft: &mut Draft, byte: u8) -> Result<Move, CutFault>
 /// In a quoted field, after a quote.
 fn after_quote(draft: &mut Draft, sep: u8, byte: u8) -> Result<Move, CutFault>
     requires sep { IsTrue (is_separator sep) }
-    requires small { size_of draft.old < 2 ^ 31 }
+    requires small { size_of draft.old < 2 ^ 32 }
     ensures moves { Moves sep Place.QuoteInQuoted draft.old byte result draft.new }
-    ensures size { size_of draft.new ≤ size_of draft.old + 2 }
+    ensures size { size_of draft.new ≤ size_of draft.old + 1 }
 {
     if byte == sep {
         return end_field(draft);
