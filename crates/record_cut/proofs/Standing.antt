@@ -1,11 +1,11 @@
 -- What a cutter stands for after some bytes.
 use Rattle.std.proofs.Common.{◌≡◌, ℕ, suc, ◌+◌, ◌-◌, ◌<◌, ◌≤◌, IsTrue, List, [], ◌∷◌, ◌++◌, length, take, None, Ok, Err, refl, sym, ap, ◌∙◌, subst, arith, append_assoc, length-append}
-use Rattle.std.proofs.lemmas.List.{append-nil}
+use Rattle.std.proofs.lemmas.List.{append-nil, length-take, length-take-le, take-take}
 use Rattle.record_cut.specs.Bytes.{is_separator}
 use Rattle.record_cut.specs.Drafted.{Drafted}
 use Rattle.record_cut.specs.Record.{Whole, Bad}
 use Rattle.record_cut.specs.Records.{Cut, Fault, Rest, with_records, only, by_record, records_from, records}
-use Rattle.record_cut.specs.Ended.{Ended, so_far_of, so_far}
+use Rattle.record_cut.specs.Ended.{Ended, fault_at_byte, so_far_of, so_far}
 use Rattle.record_cut.specs.Resumed.{continued, resumed, Fits, FitsPlace}
 use Rattle.record_cut.specs.Moves.{GoesTo, Moves, RunsTo, Opens}
 use Rattle.record_cut.specs.StandsFor.{StandsFor, HasBegun}
@@ -70,6 +70,12 @@ stops-at sep phase draft count byte bytes more fault stands step =
     let cut : List (List (List ℕ)) → ℕ → Cut = λ first offset. record { records = first; onward = Fault fault offset } in
     stands.follows (byte ∷ more) ∙ ap (with_records (records sep bytes).records) (step (length (bytes ++ byte ∷ more)) more) ∙ ap (λ first. cut first (length (bytes ++ byte ∷ more) - length (byte ∷ more))) (append-nil (records sep bytes).records) ∙ ap (cut (records sep bytes).records) at
 
+-- no fault stands at one of these bytes
+pub no_fault : (sep : ℕ) (phase : Phase) (draft : Drafted) (count : ℕ) (bytes : List ℕ) → IsTrue (is_separator sep) → Stands sep phase draft count bytes → (so_far sep bytes).fault ≡ None
+no_fault sep phase draft count bytes is stands =
+    let still = quiet sep count phase draft is stands.short stands.fits (length (bytes ++ [])) in
+    ap (λ text. (so_far sep text).fault) (sym (append-nil bytes)) ∙ ap (λ (c : Cut). fault_at_byte c.onward) (stands.follows []) ∙ ap (λ (c : Cut). fault_at_byte c.onward) still.only_rest
+
 -- the same of a cutter
 
 pub held : (cutter : Cutter) (sep : ℕ) (bytes : List ℕ) → StandsFor cutter sep bytes → Stands sep cutter.phase cutter.draft cutter.count bytes
@@ -78,23 +84,30 @@ held cutter sep bytes stands = record { fits = stands.fits; short = cutter.short
 pub holds : (cutter : Cutter) (sep : ℕ) (bytes : List ℕ) → cutter.sep ≡ sep → Stands sep cutter.phase cutter.draft cutter.count bytes → StandsFor cutter sep bytes
 holds cutter sep bytes same stands = record { separator = same; fits = stands.fits; follows = stands.follows }
 
+pub same-sep : (old : Cutter) (sep : ℕ) (bytes : List ℕ) (P : ℕ → Type 0) → (StandsFor old old.sep bytes → P old.sep) → StandsFor old sep bytes → P sep
+same-sep old sep bytes P at_own stands =
+    let Q : ℕ → Type 0 = λ s. StandsFor old s bytes in
+    subst P stands.separator (at_own (subst Q (sym stands.separator) stands))
+
+pub stands-no_fault : (cutter : Cutter) (sep : ℕ) (bytes : List ℕ) → StandsFor cutter sep bytes → (so_far sep bytes).fault ≡ None
+stands-no_fault cutter sep bytes = same-sep cutter sep bytes (λ s. (so_far s bytes).fault ≡ None) (λ stands. no_fault cutter.sep cutter.phase cutter.draft cutter.count bytes cutter.separates (held cutter cutter.sep bytes stands))
+
 pub goes-on : (old new : Cutter) (bytes piece : List ℕ) (added : List (List (List ℕ))) → StandsFor old old.sep bytes → new.sep ≡ old.sep → Fits new.phase new.draft new.count → Resumes old.sep old.phase old.draft old.count piece added new.phase new.draft new.count → GoesOn old.sep bytes piece added new
 goes-on old new bytes piece added stands same fits step =
     let on = stands-on old.sep old.phase old.draft old.count new.phase new.draft new.count bytes piece added old.separates (held old old.sep bytes stands) fits new.short step in
     record { stands = holds new old.sep (bytes ++ piece) same on.stands; grown = on.grown }
 
+-- no byte has been read
+pub nothing-fed : (old : Cutter) (sep : ℕ) (bytes : List ℕ) → StandsFor old sep bytes → GoesOn sep bytes [] [] old
+nothing-fed old sep bytes = same-sep old sep bytes (λ s. GoesOn s bytes [] [] old) (λ stands. goes-on old old bytes [] [] stands refl stands.fits (λ all more. refl))
+
 fails-at : (old : Cutter) (byte : ℕ) (bytes : List ℕ) (fault : CutFault) → StandsFor old old.sep bytes → StopsAt old.sep old.phase old.draft old.count byte fault → FailsAt old.sep bytes (byte ∷ []) fault
 fails-at old byte bytes fault stands step =
     let at : length bytes ≡ length (bytes ++ byte ∷ []) - 1 = omega (arith, length-append bytes (byte ∷ [])) in
     let cut : ℕ → Cut = λ offset. record { records = (records old.sep bytes).records; onward = Fault fault offset } in
-    record { stands = λ more. ap (records old.sep) (append_assoc bytes (byte ∷ []) more) ∙ stops-at old.sep old.phase old.draft old.count byte bytes more fault (held old old.sep bytes stands) step ∙ ap cut at }
+    record { none_before = ap (so_far old.sep) (append-nil bytes); stands = λ more. ap (records old.sep) (append_assoc bytes (byte ∷ []) more) ∙ stops-at old.sep old.phase old.draft old.count byte bytes more fault (held old old.sep bytes stands) step ∙ ap cut at }
 
 -- each kind of byte
-
-pub same-sep : (old : Cutter) (sep : ℕ) (bytes : List ℕ) (P : ℕ → Type 0) → (StandsFor old old.sep bytes → P old.sep) → StandsFor old sep bytes → P sep
-same-sep old sep bytes P at_own stands =
-    let Q : ℕ → Type 0 = λ s. StandsFor old s bytes in
-    subst P stands.separator (at_own (subst Q (sym stands.separator) stands))
 
 pub long-step : (sep byte count : ℕ) (phase : Phase) (draft : Drafted) → IsTrue (is_separator sep) → Fits phase draft count → count ≡ 65536 → StopsAt sep phase draft count byte RecordTooLong
 long-step sep byte count Input draft is fits e all more = absurd (omega (arith, fits.size))
@@ -167,7 +180,7 @@ fed-end old new byte bytes place move draft fields tells moves is e short same b
     let step : Resumes old.sep old.phase old.draft old.count (byte ∷ []) (fields ∷ []) new.phase new.draft new.count = subst R same_fields (end-step old.sep byte old.count new.count old.phase new.phase place old.draft draft new.draft opens ended short begun.phase begun.only.field) in
     record {
       goes_on = goes-on old new bytes (byte ∷ []) (fields ∷ []) stands same (begun-fits new begun) step;
-      none_before = ap (λ text. (so_far old.sep text).records) (append-nil bytes);
+      none_before = ap (so_far old.sep) (append-nil bytes);
     }
 
 pub skip-step : (sep byte count size : ℕ) (phase next : Phase) (draft new : Drafted) → Opens sep phase draft count byte Skip → next ≡ Record → new.field ≡ [] → Resumes sep phase draft count (byte ∷ []) [] next new size
@@ -204,3 +217,14 @@ pub fed-memory : (sep : ℕ) (bytes piece : List ℕ) (fault : CutFault) (new : 
 fed-memory sep bytes piece fault new e =
     let P : CutFault → Type 0 = λ f. Feeds sep bytes piece (Err f) new in
     subst P (sym e) tt
+
+-- a run at the front of a front part of a slice
+pub fed-part : (old new : Cutter) (bytes before : List ℕ) (len p q : ℕ) (place next : Place) → RunsTo old.sep place (take len (take q bytes)) next → new.draft.field ≡ old.draft.field ++ take p (take q bytes) → p ≡ len → len ≤ length (take q bytes) → old.phase ≡ Inside place → new.draft.fields ≡ old.draft.fields → new.sep ≡ old.sep → new.phase ≡ Inside next → new.count ≡ old.count + len → StandsFor old old.sep before → GoesOn old.sep before (take len bytes) [] new
+fed-part old new bytes before len p q place next runs f e h at fields same phase size stands =
+    let within : len ≤ q = omega (arith, h, length-take q bytes) in
+    let part : take len (take q bytes) ≡ take len bytes = take-take len q bytes within in
+    let P : List ℕ → Type 0 = λ run. RunsTo old.sep place run next in
+    let long : length (take len bytes) ≡ len = length-take-le len bytes (omega (arith, h, length-take q bytes)) in
+    let added : new.draft.field ≡ old.draft.field ++ take len bytes = f ∙ ap (λ n. old.draft.field ++ take n (take q bytes)) e ∙ ap (λ run. old.draft.field ++ run) part in
+    let counted : new.count ≡ old.count + length (take len bytes) = size ∙ ap (λ n. old.count + n) (sym long) in
+    fed-run old new (take len bytes) before place next at (subst P part runs) fields added same phase counted stands

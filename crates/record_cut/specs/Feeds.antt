@@ -21,11 +21,11 @@ front_of piece = take (length piece - 1) piece
 -- the last byte of the piece ends a record with these fields, and no byte before it ends one
 pub record EndsRecord (sep : ℕ) (bytes piece : List ℕ) (fields : List (List ℕ)) (cutter : Cutter) : Type 0 where
   pub goes_on : GoesOn sep bytes piece (fields ∷ []) cutter
-  pub none_before : (so_far sep (bytes ++ front_of piece)).records ≡ (so_far sep bytes).records
+  pub none_before : so_far sep (bytes ++ front_of piece) ≡ so_far sep bytes
 
--- Whatever follows, the fault stands at the last byte of the piece, and no record of the text ends in the
--- piece.
+-- whatever follows, the fault stands at the last byte of the piece, and no byte before it ends a record
 pub record FailsAt (sep : ℕ) (bytes piece : List ℕ) (fault : CutFault) : Type 0 where
+  pub none_before : so_far sep (bytes ++ front_of piece) ≡ so_far sep bytes
   pub stands : (more : List ℕ) → records sep ((bytes ++ piece) ++ more) ≡ record { records = (so_far sep bytes).records; onward = Fault fault (length (bytes ++ piece) - 1) }
 
 -- The answer to a piece after these bytes: none that the piece ends or refuses, the fields of a record

@@ -84,6 +84,7 @@ impl Cutter {
             → Feeds sep before (take result.count bytes.now) result.answer self.new }
         ensures within { result.count ≤ length bytes.now }
         ensures all { result.answer ≡ Ok None → result.count ≡ length bytes.now }
+        ensures some { 0 < length bytes.now → 0 < result.count }
 
         ensures refuses { IfErr result.answer (HasRefused self.new) }
         ensures refused { (fault : CutFault) → HasRefused self.old fault
@@ -93,7 +94,7 @@ impl Cutter {
         while count < bytes.len() {
             let next = self.feed_run(&bytes[count..]);
             count += next.count;
-            if !matches!(next.answer, Ok(None)) {
+            if !next.goes_on() {
                 return Taken {
                     count,
                     answer: next.answer,
@@ -134,7 +135,7 @@ impl Cutter {
             → StandsFor self.old sep before
             → Feeds sep before (take result.count bytes.now) result.answer self.new }
         ensures within { result.count ≤ length bytes.now }
-        ensures some { result.answer ≡ Ok None → 0 < result.count }
+        ensures some { 0 < result.count }
 
         ensures refuses { IfErr result.answer (HasRefused self.new) }
         ensures refused { (fault : CutFault) → HasRefused self.old fault
@@ -145,20 +146,20 @@ impl Cutter {
             Err(fault) => {
                 self.phase = Phase::Refused(fault);
                 return Taken {
-                    count: 0,
+                    count: 1,
                     answer: Err(fault),
                 };
             }
         };
-        match bytes.get(run) {
-            Some(byte) => Taken {
-                count: run + 1,
-                answer: self.feed(*byte),
-            },
-            None => Taken {
+        if run == bytes.len() {
+            return Taken {
                 count: run,
                 answer: Ok(None),
-            },
+            };
+        }
+        Taken {
+            count: run + 1,
+            answer: self.feed(bytes[run]),
         }
     }
 

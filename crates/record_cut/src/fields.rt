@@ -87,3 +87,16 @@ impl Fields {
         self.bytes.len()
     }
 }
+
+impl Clone for Fields {
+    ghost use Rattle.std.specs.Prelude.{◌≡◌};
+
+    ghost is_clone = { λ fields copy. copy ≡ fields };
+
+    fn clone(&self) -> Result<Fields, AllocError> {
+        let alloc = *self.bytes.allocator();
+        let bytes = Vec::from_slice(alloc, self.bytes.as_slice())?;
+        let ends = Vec::from_slice(alloc, self.ends.as_slice())?;
+        Ok(Fields { bytes, ends })
+    }
+}

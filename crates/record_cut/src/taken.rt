@@ -13,3 +13,17 @@ pub struct Taken {
     /// was refused.
     pub answer: Result<Option<Fields>, CutFault>,
 }
+
+impl Taken {
+    ghost use Rattle.std.specs.Prelude.{◌≡◌, ◌↔◌, IsTrue, None, Ok};
+
+    /// Whether no byte ended a record or was refused.
+    pub fn goes_on(&self) -> bool
+        ensures { IsTrue result ↔ (self.now.answer ≡ Ok None) }
+    {
+        match &self.answer {
+            Ok(found) => found.is_none(),
+            Err(_) => false,
+        }
+    }
+}
