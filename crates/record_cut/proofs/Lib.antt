@@ -12,4 +12,5 @@ pub mod Runs
 pub mod Splits
 pub mod Standing
 pub mod Steps
+pub mod Walk
 pub mod Within

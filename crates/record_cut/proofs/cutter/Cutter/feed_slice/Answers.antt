@@ -12,7 +12,7 @@ loop-count-init c = record { within = omega arith; goes_on = nothing-fed c.args.
 
 pub loop-count-preserved-else-not-goes_on-2 : goal.loop-count-preserved-else-not-goes_on-2
 loop-count-preserved-else-not-goes_on-2 c =
-    let none : c.feed_run-next.result.answer ≡ Ok None = c.if-not-goes_on.ensures.0 tt in
+    let none : c.feed_run-next.result.answer ≡ Ok None = c.if-not-goes_on.ensures.0 refl in
     record {
       within = omega (arith, c.feed_run-next.ensures.within, length-take {A = ℕ}, length-drop {A = ℕ});
       goes_on = λ sep before stands.
