@@ -42,15 +42,15 @@ moved-plain sep byte draft is =
     elim (eqb_tells byte sep) [
       | inl a ↦ Goes Field (ended_with draft) (plain-at_sep sep byte draft (ended_with draft) (Ok (To Field)) a.1 (refl, refl, refl))
       | inr a ↦ elim (eqb_tells byte 34) [
-          | inl b ↦ Stops (λ more. rw b.1 (plain-at_quote sep draft is more))
-          | inr b ↦ elim (eqb_tells byte 10) [
-              | inl d ↦ Closes draft (λ more. rw d.1 (plain-at_line_feed sep draft is more))
-              | inr d ↦ elim (eqb_tells byte 13) [
-                  | inl e ↦ Goes PlainCr draft (record { fits = tt; same = λ more. rw e.1 refl })
-                  | inr e ↦ Goes Plain (kept_with draft byte) (plain-at_other sep byte draft (kept_with draft byte) (Ok (To Plain)) a.1 b.1 d.1 e.1 (refl, refl, refl))
-                ]
-            ]
+        | inl b ↦ Stops (λ more. rw b.1 (plain-at_quote sep draft is more))
+        | inr b ↦ elim (eqb_tells byte 10) [
+          | inl d ↦ Closes draft (λ more. rw d.1 (plain-at_line_feed sep draft is more))
+          | inr d ↦ elim (eqb_tells byte 13) [
+            | inl e ↦ Goes PlainCr draft (record { fits = tt; same = λ more. rw e.1 refl })
+            | inr e ↦ Goes Plain (kept_with draft byte) (plain-at_other sep byte draft (kept_with draft byte) (Ok (To Plain)) a.1 b.1 d.1 e.1 (refl, refl, refl))
+          ]
         ]
+      ]
     ]
 
 -- the same from a place at which the byte does the same
@@ -88,15 +88,15 @@ moved-quote sep byte draft is =
     elim (eqb_tells byte sep) [
       | inl a ↦ Goes Field (ended_with draft) (quote-at_sep sep byte draft (ended_with draft) (Ok (To Field)) is a.1 (refl, refl, refl))
       | inr a ↦ elim (eqb_tells byte 34) [
-          | inl b ↦ Goes Quoted (kept_with draft byte) (quote-at_quote sep byte draft (kept_with draft byte) (Ok (To Quoted)) b.1 (refl, refl, refl))
-          | inr b ↦ elim (eqb_tells byte 10) [
-              | inl d ↦ Closes draft (λ more. rw d.1 (quote-at_line_feed sep draft is more))
-              | inr d ↦ elim (eqb_tells byte 13) [
-                  | inl e ↦ Goes ClosedCr draft (record { fits = tt; same = λ more. rw e.1 (quote-at_cr sep draft more) })
-                  | inr e ↦ Stops (λ more. quote-at_other sep byte draft more a.1 b.1 d.1 e.1)
-                ]
-            ]
+        | inl b ↦ Goes Quoted (kept_with draft byte) (quote-at_quote sep byte draft (kept_with draft byte) (Ok (To Quoted)) b.1 (refl, refl, refl))
+        | inr b ↦ elim (eqb_tells byte 10) [
+          | inl d ↦ Closes draft (λ more. rw d.1 (quote-at_line_feed sep draft is more))
+          | inr d ↦ elim (eqb_tells byte 13) [
+            | inl e ↦ Goes ClosedCr draft (record { fits = tt; same = λ more. rw e.1 (quote-at_cr sep draft more) })
+            | inr e ↦ Stops (λ more. quote-at_other sep byte draft more a.1 b.1 d.1 e.1)
+          ]
         ]
+      ]
     ]
 
 moved-closed_cr : (sep byte : ℕ) (draft : Drafted) → IsTrue (is_separator sep) → Moved sep ClosedCr draft byte
@@ -134,9 +134,9 @@ opened-record sep byte count draft only =
     elim (eqb_tells byte 10) [
       | inl a ↦ record { opening = Skip; opens = record-at_line_feed sep byte count draft only a.1 }
       | inr a ↦ elim (eqb_tells byte 13) [
-          | inl b ↦ record { opening = Keep RecordCr; opens = λ new size e f g. (rw b.1 at (has_only-more [] draft new count size byte only e f g), λ all more. kept-same (records_from sep all) draft new byte more f) }
-          | inr b ↦ record { opening = Read Field; opens = record-at_other sep byte count draft only a.1 b.1 }
-        ]
+        | inl b ↦ record { opening = Keep RecordCr; opens = λ new size e f g. (rw b.1 at (has_only-more [] draft new count size byte only e f g), λ all more. kept-same (records_from sep all) draft new byte more f) }
+        | inr b ↦ record { opening = Read Field; opens = record-at_other sep byte count draft only a.1 b.1 }
+      ]
     ]
 
 opened : (sep byte count : ℕ) (phase : Phase) (draft : Drafted) → IsTrue (is_separator sep) → Fits phase draft count → Opened sep phase draft count byte

@@ -8,7 +8,7 @@ abbrev pub invariant-loop-count : goal.invariant-loop-count
 invariant-loop-count l = record {
   within : l.count ≤ length l.bytes;
   goes_on : (sep : ℕ) (before : List ℕ) → StandsFor l.initial.self sep before → GoesOn sep before (take l.count l.bytes) [] l.self;
-  refused : (fault : CutFault) → HasRefused l.initial.self fault → HasRefused l.self fault × (l.count ≡ 0)
+  refused : (fault : CutFault) → HasRefused l.initial.self fault → HasRefused l.self fault × (l.count ≡ 0);
 }
 
 abbrev pub decreases-loop-count : goal.decreases-loop-count
