@@ -1,4 +1,4 @@
--- What a record of which a part has been read makes of the bytes that follow, by the grammar.
+-- For proofs: what a record of which a part has been read makes of the bytes that follow, by the grammar.
 use Rattle.std.specs.Prelude.{◌≡◌, ℕ, ◌+◌, List, [], ◌∷◌, ◌++◌, length, Some}
 use Rattle.record_cut.specs.Bytes.{quote, carriage_return}
 use Rattle.record_cut.specs.Field.{led_by, led_if_any, quoted, plain, after_field}
