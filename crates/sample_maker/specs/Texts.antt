@@ -3,7 +3,7 @@ use Rattle.std.specs.Prelude.{ℕ, zero, suc, ℤ, List, [], ◌++◌, codes, de
 use Rattle.fix_point.specs.Text.{text_of_value}
 use Rattle.sample_maker.specs.Walk.{reading_of}
 
--- in five seconds the sensor changes by at most 0.03 in each second
+-- in times at most 5 seconds apart the sensor changes by at most 0.03 in each second
 abbrev pub rules_text : List ℕ
 rules_text =
     codes "[format]\n"

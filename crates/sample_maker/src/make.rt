@@ -14,8 +14,11 @@ pub const MOST_ROWS: u32 = 20_000;
 /// The greatest number that a sample is made from.
 pub const MOST_SEED: u32 = 999_999_999;
 
-const RULES: &[u8] = b"[format]\ndecimals = 2\n[[speed]]\nsensor = \"x\"\nmin = \"-0.03\"\nmax = \"0.03\"\nwindow = 5\n";
+/// The rule file: in times at most 5 seconds apart the sensor changes by at most 0.03 in each second.
+const RULES: &[u8] =
+    b"[format]\ndecimals = 2\n[[speed]]\nsensor = \"x\"\nmin = \"-0.03\"\nmax = \"0.03\"\nwindow = 5\n";
 
+/// The header of the readings.
 const HEADER: &[u8] = b"time,x\n";
 
 /// The most bytes of a line, as of `19999,-395.00`, with its line break.
@@ -24,7 +27,8 @@ const LONGEST_LINE: usize = 14;
 /// The level before the first row, in hundredths.
 const FIRST_LEVEL: i64 = 20_000;
 
-/// The sample of so many rows that is made from a number. Its readings obey its rules but for spikes.
+/// The sample of so many rows that is made from a number: a rule file, and readings that obey it but for spikes.
+/// Its rows are a second apart.
 pub fn sample(alloc: Global, rows: u32, seed: u32) -> Result<Sample, AllocError>
     requires rows_least { 1 ≤ rows }
     requires rows_most { rows ≤ MOST_ROWS }

@@ -4,7 +4,8 @@ use std::test::Fail;
 #[test]
 fn three_rows(rt: HostRuntime) -> Result<(), Fail> {
     let made = sample(rt.alloc(), 3, 0)?;
-    let rules = b"[format]\ndecimals = 2\n[[speed]]\nsensor = \"x\"\nmin = \"-0.03\"\nmax = \"0.03\"\nwindow = 5\n";
+    let rules =
+        b"[format]\ndecimals = 2\n[[speed]]\nsensor = \"x\"\nmin = \"-0.03\"\nmax = \"0.03\"\nwindow = 5\n";
     assert_eq!(rt; made.rules.bytes(), rules.as_slice());
     let readings = b"time,x\n0,204.97\n1,200.00\n2,200.03\n";
     assert_eq!(rt; made.readings.bytes(), readings.as_slice());
