@@ -26,7 +26,8 @@ pub fn push_hundredths(bytes: &mut Vec<u8>, number: u64) -> Result<(), AllocErro
 /// Adds the last two digits of a number.
 pub fn push_two_digits(bytes: &mut Vec<u8>, number: u64) -> Result<(), AllocError> {
     bytes.push(digit(number / 10))?;
-    bytes.push(digit(number))
+    bytes.push(digit(number))?;
+    Ok(())
 }
 
 /// The last digit of a number.
