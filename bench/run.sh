@@ -3,10 +3,10 @@
 # one item and the ratio of the proved time to the plain one. For the blocked chain it also prints the ratio of its
 # proved time to that of the chain that settles.
 #
-# usage: bench/run.sh units|records|settle|blocked [ROUNDS]
+# usage: bench/run.sh units|text_of|ticks|records|settle|blocked [ROUNDS]
 set -euo pipefail
 cd "$(dirname "$0")/.."
-what=${1:?usage: bench/run.sh units|records|settle|blocked [ROUNDS]}
+what=${1:?usage: bench/run.sh units|text_of|ticks|records|settle|blocked [ROUNDS]}
 rounds=${2:-5}
 
 # The blocked chain is settled by the same twin as the other one.

@@ -4,7 +4,9 @@
 mod chain;
 mod records;
 mod settled;
+mod text_of;
 mod texts;
+mod ticks;
 mod units;
 
 use std::rt::Runtime;
@@ -16,6 +18,8 @@ fn main(rt: HostRuntime) -> io::Result<()> {
             "blocked" => settled::measure(&rt, true)?,
             "records" => records::measure(&rt)?,
             "settle" => settled::measure(&rt, false)?,
+            "text_of" => text_of::measure(&rt)?,
+            "ticks" => ticks::measure(&rt)?,
             "units" => units::measure(&rt)?,
             _ => println!(rt; "{word} is not measured")?,
         }
