@@ -1,5 +1,5 @@
 -- The texts of rows, read off loops.
-use Rattle.std.proofs.Common.{◌≡◌, ℕ, ◌+◌, ◌<◌, ◌≤◌, Bool, false, List, [], ◌∷◌, ◌++◌, length, get_or, take, drop, refl, sym, ap, ◌∙◌, arith, append_assoc, ne_eqb}
+use Rattle.std.proofs.Common.{◌≡◌, ℕ, ◌+◌, ◌<◌, ◌≤◌, false, List, [], ◌∷◌, ◌++◌, length, get_or, take, drop, refl, sym, ap, ◌∙◌, arith, append_assoc, ne_eqb}
 use Rattle.std.proofs.lemmas.List.{append-nil, take-append-drop, take_all, drop_more, drop_all, drop-drop}
 use Rattle.record_cut.specs.Quotes.{holds_quote}
 use Rattle.record_cut.specs.Row.{doubled_if_quote, doubled, text_of_first, text_of_next, text_of_others, text_of_row}

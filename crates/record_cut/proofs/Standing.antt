@@ -18,7 +18,7 @@ use Rattle.record_cut.specs.declared.phase.Phase.TheVariants.{Input, MarkOne, Ma
 use Rattle.record_cut.specs.declared.phase.Move.{Move}
 use Rattle.record_cut.specs.declared.phase.Move.TheVariants.{To, EndRecord}
 use Rattle.record_cut.specs.declared.phase.Opening.{Opening}
-use Rattle.record_cut.specs.declared.phase.Opening.TheVariants.{Read, Keep, Skip, Refuse}
+use Rattle.record_cut.specs.declared.phase.Opening.TheVariants.{Read, Keep, Skip}
 use Rattle.record_cut.specs.declared.cutter.Cutter.{Cutter}
 use Rattle.record_cut.proofs.Cuts.{with_records-twice, by_whole, by_bad, by_long, bytes-left}
 use Rattle.record_cut.proofs.Endings.{quiet}

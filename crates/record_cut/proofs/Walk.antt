@@ -1,5 +1,5 @@
 -- Each text is one that may go on, or has a fault at a byte that holds whatever follows.
-use Rattle.std.proofs.Common.{◌≡◌, ◌≢◌, inl, inr, ◌⊎◌, ℕ, suc, ◌+◌, ◌<◌, ◌≤◌, IsTrue, List, [], ◌∷◌, ◌++◌, length, Option, Some, None, Ok, refl, sym, ap, ◌∙◌, subst, arith, append_assoc, length-append, add-one}
+use Rattle.std.proofs.Common.{◌≡◌, inl, inr, ℕ, suc, ◌+◌, ◌<◌, ◌≤◌, IsTrue, List, [], ◌∷◌, ◌++◌, length, Some, None, Ok, refl, sym, ap, ◌∙◌, subst, arith, append_assoc, length-append, add-one}
 use Rattle.std.proofs.lemmas.List.{append-nil}
 use Rattle.std.proofs.lemmas.Bool.{cases_lt}
 use Rattle.std.proofs.lemmas.Bool.Decides.{eqb_tells}
@@ -7,9 +7,9 @@ use Rattle.record_cut.specs.Bytes.{is_separator}
 use Rattle.record_cut.specs.Drafted.{Drafted}
 use Rattle.record_cut.specs.Record.{Whole, Bad}
 use Rattle.record_cut.specs.Records.{Cut, Fault, records_from, text_from, records}
-use Rattle.record_cut.specs.Ended.{Ended, so_far_of, ended_of, so_far, ended, Stays, FaultsStay, RecordsStay}
+use Rattle.record_cut.specs.Ended.{Ended, so_far_of, ended_of, so_far, Stays, FaultsStay, RecordsStay}
 use Rattle.record_cut.specs.Resumed.{continued, resumed, HasOnly, Fits, FitsPlace}
-use Rattle.record_cut.specs.Moves.{GoesTo, Moves, Opens}
+use Rattle.record_cut.specs.Moves.{GoesTo, Opens}
 use Rattle.record_cut.specs.declared.fault.CutFault.{CutFault}
 use Rattle.record_cut.specs.declared.fault.CutFault.TheVariants.{BadQuote, RecordTooLong}
 use Rattle.record_cut.specs.declared.phase.Place.{Place}
@@ -19,7 +19,7 @@ use Rattle.record_cut.specs.declared.phase.Phase.TheVariants.{Input, MarkOne, Ma
 use Rattle.record_cut.specs.declared.phase.Move.TheVariants.{To}
 use Rattle.record_cut.specs.declared.phase.Opening.{Opening}
 use Rattle.record_cut.specs.declared.phase.Opening.TheVariants.{Read, Keep, Skip, Refuse}
-use Rattle.record_cut.proofs.Steps.{field-opens, field-plain, plain-at_sep, plain-at_quote, plain-at_line_feed, plain-at_other, plain_cr-at_line_feed, plain_cr-goes, quoted-at_other, quote-at_sep, quote-at_quote, quote-at_line_feed, quote-at_cr, quote-at_other, closed_cr-at_line_feed, closed_cr-at_other, moves-from}
+use Rattle.record_cut.proofs.Steps.{field-opens, field-plain, plain-at_sep, plain-at_quote, plain-at_line_feed, plain-at_other, plain_cr-at_line_feed, plain_cr-goes, quoted-at_other, quote-at_sep, quote-at_quote, quote-at_line_feed, quote-at_cr, quote-at_other, closed_cr-at_line_feed, closed_cr-at_other}
 use Rattle.record_cut.proofs.Openings.{record-at_line_feed, record-at_other, record_cr-at_line_feed, record_cr-at_other, mark_one-at_other, mark_two-at_other, mark_two-at_last, input-opens}
 use Rattle.record_cut.proofs.Standing.{Stands, Resumes, StopsAt, stands-on, stops-at, no_fault, long-step, to-step, end-step, skip-step, bad-step}
 use Rattle.record_cut.proofs.Finishing.{begun-stands}

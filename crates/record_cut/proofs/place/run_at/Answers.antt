@@ -1,4 +1,4 @@
-use Rattle.std.proofs.Common.{◌≡◌, inl, inr, ℕ, List, take, Option, sym, subst, false, ◌≤◌, length}
+use Rattle.std.proofs.Common.{◌≡◌, inl, inr, ℕ, List, take, Option, sym, subst}
 use Rattle.std.specs.Prelude.{IfSome}
 use Rattle.record_cut.specs.Moves.{RunsTo}
 use Rattle.record_cut.specs.declared.phase.Place.{Place}

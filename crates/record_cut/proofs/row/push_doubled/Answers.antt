@@ -1,4 +1,4 @@
-use Rattle.std.proofs.Common.{length, drop, arith, length-drop}
+use Rattle.std.proofs.Common.{drop, arith, length-drop}
 use Rattle.std.proofs.lemmas.List.{take_all}
 use Rattle.record_cut.proofs.Rows.{doubled-pushed, doubled-done}
 use Rattle.record_cut.proofs.row.push_doubled.Goals as goal

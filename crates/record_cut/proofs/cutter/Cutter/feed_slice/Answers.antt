@@ -1,4 +1,4 @@
-use Rattle.std.proofs.Common.{◌≡◌, ◌+◌, ◌++◌, ℕ, List, take, drop, Option, None, Result, Ok, Err, refl, ap, subst, ◌∙◌, arith, length-drop}
+use Rattle.std.proofs.Common.{◌≡◌, ◌+◌, ◌++◌, ℕ, List, take, drop, Option, None, Result, Ok, Err, refl, ap, subst, arith, length-drop}
 use Rattle.std.proofs.lemmas.List.{length-take, take_all}
 use Rattle.record_cut.specs.Feeds.{Feeds}
 use Rattle.record_cut.specs.declared.fault.CutFault.{CutFault}

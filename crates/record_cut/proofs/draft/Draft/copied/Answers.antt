@@ -1,4 +1,4 @@
-use Rattle.std.proofs.Common.{◌≡◌, ◌∙◌, ap, length, arith}
+use Rattle.std.proofs.Common.{◌∙◌, ap, length, arith}
 use Rattle.record_cut.proofs.Splits.{Rises-whole, Rises-copied, size-drafted}
 use Rattle.record_cut.specs.Drafted.{Drafted, size_of}
 use Rattle.record_cut.proofs.draft.Draft.copied.Goals as goal
