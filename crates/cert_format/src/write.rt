@@ -1,0 +1,129 @@
+//! The text of a certificate.
+ghost use Rattle.std.specs.Prelude.{◌≡◌, ◌++◌, map, IfOk, OnOk};
+
+ghost use Rattle.cert_format.specs.Line.{text_of_line};
+ghost use Rattle.cert_format.specs.Cert.{HasText, text_of_cert};
+
+use crate::cert::{Cert, SetList};
+use crate::line::{Line, Version};
+use itoa::Buffer;
+use screen_model::{BoundName, FlowList, NameList, Side};
+use std::alloc::{AllocError, Global};
+
+/// The text of a certificate.
+pub fn write_cert(alloc: Global, cert: &Cert) -> Result<Vec<u8>, AllocError>
+    requires { HasText cert.now }
+    ensures { IfOk result (λ text. text.items ≡ text_of_cert cert.now) }
+{
+    let mut text = Vec::new(alloc);
+    match cert {
+        Cert::Repair { total, sets, flow } => {
+            push_whole(&mut text, Line::Header(Version::One))?;
+            push_whole(&mut text, Line::ClaimRepair)?;
+            push_whole(&mut text, Line::Total(*total))?;
+            push_lists(&mut text, sets, flow)?;
+        }
+        Cert::Priced {
+            total,
+            paid,
+            sets,
+            flow,
+        } => {
+            push_whole(&mut text, Line::Header(Version::Two))?;
+            push_whole(&mut text, Line::ClaimRepair)?;
+            push_whole(&mut text, Line::Total(*total))?;
+            push_whole(&mut text, Line::Paid(*paid))?;
+            push_lists(&mut text, sets, flow)?;
+        }
+        Cert::NoSeries { steps } => {
+            push_whole(&mut text, Line::Header(Version::One))?;
+            push_whole(&mut text, Line::ClaimNone)?;
+            push_steps(&mut text, steps)?;
+        }
+    }
+    push_whole(&mut text, Line::End)?;
+    Ok(text)
+}
+
+/// Adds the lines of a repair's lists.
+fn push_lists(text: &mut Vec<u8>, sets: &SetList, flow: &FlowList) -> Result<(), AllocError> {
+    for line in sets.as_slice() {
+        push_whole(text, Line::Set(*line))?;
+    }
+    for item in flow.as_slice() {
+        push_whole(text, Line::Flow(*item))?;
+    }
+    Ok(())
+}
+
+/// Adds the lines of a cycle's steps.
+fn push_steps(text: &mut Vec<u8>, steps: &NameList) -> Result<(), AllocError> {
+    for name in steps.as_slice() {
+        push_whole(text, Line::Step(*name))?;
+    }
+    Ok(())
+}
+
+/// Adds a line with its line feed.
+fn push_whole(text: &mut Vec<u8>, line: Line) -> Result<(), AllocError> {
+    push_line(text, line)?;
+    text.extend_from_slice(b"\n")
+}
+
+/// Adds the text of a line, without its line feed.
+pub fn push_line(text: &mut Vec<u8>, line: Line) -> Result<(), AllocError>
+    ensures { OnOk result (text.new.items ≡ text.old.items ++ text_of_line line) }
+{
+    let mut digits = Buffer::new();
+    match line {
+        Line::Header(Version::One) => text.extend_from_slice(b"screen-cert 1"),
+        Line::Header(Version::Two) => text.extend_from_slice(b"screen-cert 2"),
+        Line::ClaimRepair => text.extend_from_slice(b"claim repair"),
+        Line::ClaimNone => text.extend_from_slice(b"claim none"),
+        Line::Total(total) => {
+            text.extend_from_slice(b"total ")?;
+            text.extend_from_slice(digits.format(total).as_bytes())
+        }
+        Line::Paid(paid) => {
+            text.extend_from_slice(b"paid ")?;
+            text.extend_from_slice(digits.format(paid).as_bytes())
+        }
+        Line::Set(set) => {
+            text.extend_from_slice(b"set ")?;
+            push_number(text, set.place.row)?;
+            push_number(text, set.place.col)?;
+            text.extend_from_slice(digits.format(set.value).as_bytes())
+        }
+        Line::Flow(item) => {
+            text.extend_from_slice(b"flow ")?;
+            push_name(text, item.name)?;
+            text.extend_from_slice(b" ")?;
+            text.extend_from_slice(digits.format(item.amount).as_bytes())
+        }
+        Line::Step(name) => {
+            text.extend_from_slice(b"step ")?;
+            push_name(text, name)
+        }
+        Line::End => text.extend_from_slice(b"end"),
+    }
+}
+
+/// Adds the words of a name.
+fn push_name(text: &mut Vec<u8>, name: BoundName) -> Result<(), AllocError> {
+    push_number(text, name.rule)?;
+    push_number(text, name.from_row)?;
+    push_number(text, name.to_row)?;
+    push_number(text, name.col)?;
+    let side = match name.side {
+        Side::Up => "up",
+        Side::Down => "down",
+    };
+    text.extend_from_slice(side.as_bytes())
+}
+
+/// Adds a number and a space.
+fn push_number(text: &mut Vec<u8>, number: u32) -> Result<(), AllocError> {
+    let mut digits = Buffer::new();
+    text.extend_from_slice(digits.format(number).as_bytes())?;
+    text.extend_from_slice(b" ")
+}
