@@ -1,2 +1,6 @@
 pub mod Digits
+pub mod Drafts
+pub mod Lines
+pub mod Members
 pub mod Texts
+pub mod Words
