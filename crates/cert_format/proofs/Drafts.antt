@@ -173,7 +173,7 @@ steps_may : (steps all : List BoundName) (line : Line) (more : List Line) → Ne
 steps_may steps all line more (member name others is joined) = longer_by (NoSeries (steps ++ name ∷ [])) (ap (steps_with steps) is)
 steps_may steps all line more (last is same none) = same_end is (cc) none
 
-may_have : (cert all : Cert) (line : Line) (more : List Line) → HasText all → lines_of_cert all ≡ lines_before_end cert ++ line ∷ more → MayHave cert all line more
+may_have : (cert all : Cert) (line : Line) (more : List Line) → HasLists all → lines_of_cert all ≡ lines_before_end cert ++ line ∷ more → MayHave cert all line more
 may_have (Repair total sets some) (Repair other all flow) line more has e =
     let same : total ≡ other = cc in
     subst (λ t. MayHave (Repair total sets some) (Repair t all flow) line more) same (repair_may total sets all some flow line more (may_follow sets all some flow line more has.1 (cc)))
@@ -201,9 +201,14 @@ ends_once : (cert all : Cert) (more : List Line) → MayHave cert all End more �
 ends_once cert all more (longer_by later e) = absurd (end_is_no_member cert later e)
 ends_once cert all more (same_end is same none) = (same, none)
 
+pub has_lists : (cert : Cert) → HasText cert → HasLists cert
+has_lists (Repair total sets flow) has = has
+has_lists (Priced total paid sets flow) has = has
+has_lists (NoSeries steps) has = has.1
+
 -- two certificates with the same lines are equal
 pub one_cert : (one other : Cert) → HasText one → lines_of_cert one ≡ lines_of_cert other → one ≡ other
-one_cert one other has e = (ends_once other one [] (may_have other one End [] has e)).0
+one_cert one other has e = (ends_once other one [] (may_have other one End [] (has_lists one has) e)).0
 
 -- the draft with some line may be had
 pub record MayCome (draft : Draft) (line : Line) : Type 0 where
@@ -246,7 +251,92 @@ may_come (Claimed Two) line (NoSeries steps) more has e = absurd (cc)
 may_come (Totalled total) line (Repair other sets flow) more has e = absurd (cc)
 may_come (Totalled total) line (Priced other paid sets flow) more has e = known (Totalled total) line (Paid paid) (Listed (Priced total paid [] [])) (cc) refl
 may_come (Totalled total) line (NoSeries steps) more has e = absurd (cc)
-may_come (Listed part) line cert more has e = may_come_by part cert line more has (may_have part cert line more has e)
+may_come (Listed part) line cert more has e = may_come_by part cert line more has (may_have part cert line more (has_lists cert has) e)
 may_come (Ended whole_cert) line cert more has e =
     let joined : lines_of_cert cert ≡ lines_before_end whole_cert ++ End ∷ line ∷ more = e ∙ append_assoc (lines_before_end whole_cert) (End ∷ []) (line ∷ more) in
-    absurd (let none = (ends_once whole_cert cert (line ∷ more) (may_have whole_cert cert End (line ∷ more) has joined)).1 in cc)
+    absurd (let none = (ends_once whole_cert cert (line ∷ more) (may_have whole_cert cert End (line ∷ more) (has_lists cert has) joined)).1 in cc)
+
+-- ---- only a draft that has ended has all lines
+
+pub not_all : (draft : Draft) (cert : Cert) → IsDraft draft → whole draft ≡ None → lines_of_cert cert ≡ so_far draft → ⊥
+not_all Empty (Repair total sets flow) is part e = cc
+not_all Empty (Priced total paid sets flow) is part e = cc
+not_all Empty (NoSeries steps) is part e = cc
+not_all (Headed version) (Repair total sets flow) is part e = cc
+not_all (Headed version) (Priced total paid sets flow) is part e = cc
+not_all (Headed version) (NoSeries steps) is part e = cc
+not_all (Claimed version) (Repair total sets flow) is part e = cc
+not_all (Claimed version) (Priced total paid sets flow) is part e = cc
+not_all (Claimed version) (NoSeries steps) is part e = cc
+not_all (Totalled total) (Repair other sets flow) is part e = cc
+not_all (Totalled total) (Priced other paid sets flow) is part e = cc
+not_all (Totalled total) (NoSeries steps) is part e = cc
+not_all (Listed found) cert is part e =
+    let joined : lines_of_cert found ≡ lines_before_end cert ++ End ∷ End ∷ [] = ap (λ lines. lines ++ End ∷ []) (sym e) ∙ append_assoc (lines_before_end cert) (End ∷ []) (End ∷ []) in
+    let none = (ends_once cert found (End ∷ []) (may_have cert found End (End ∷ []) is joined)).1 in
+    cc
+not_all (Ended found) cert is part e = cc
+
+-- ---- each draft is the front of some certificate
+
+pub record CanEnd (draft : Draft) : Type 0 where
+  pub cert : Cert
+  pub has : HasText cert
+  pub more : List Line
+  pub lines : lines_of_cert cert ≡ so_far draft ++ more
+
+zero_total : IsTotal (pos 0)
+zero_total = (omega (arith, ints), omega arith)
+
+abbrev some_name : BoundName
+some_name = record { rule = 0; from_row = 1; to_row = 1; col = 1; side = Up }
+
+some_name_is : IsName some_name
+some_name_is = record {
+  rule = omega arith;
+  from_least = omega arith;
+  from_most = omega arith;
+  to_least = omega arith;
+  to_most = omega arith;
+  col_least = omega arith;
+  col_most = omega arith;
+}
+
+pub can_end : (draft : Draft) → IsDraft draft → CanEnd draft
+can_end Empty is = record { cert = Repair (pos 0) [] []; has = (zero_total, no_lists); more = lines_of_cert (Repair (pos 0) [] []); lines = refl }
+can_end (Headed One) is = record { cert = Repair (pos 0) [] []; has = (zero_total, no_lists); more = ClaimRepair ∷ Total (pos 0) ∷ End ∷ []; lines = refl }
+can_end (Headed Two) is = record {
+  cert = Priced (pos 0) (pos 0) [] [];
+  has = (zero_total, zero_total, no_lists);
+  more = ClaimRepair ∷ Total (pos 0) ∷ Paid (pos 0) ∷ End ∷ [];
+  lines = refl;
+}
+can_end (Claimed One) is = record { cert = Repair (pos 0) [] []; has = (zero_total, no_lists); more = Total (pos 0) ∷ End ∷ []; lines = refl }
+can_end (Claimed Two) is = record { cert = Priced (pos 0) (pos 0) [] []; has = (zero_total, zero_total, no_lists); more = Total (pos 0) ∷ Paid (pos 0) ∷ End ∷ []; lines = refl }
+can_end (Totalled total) is = record { cert = Priced total (pos 0) [] []; has = (is, zero_total, no_lists); more = Paid (pos 0) ∷ End ∷ []; lines = refl }
+can_end (Listed (Repair total sets flow)) is = record { cert = Repair total sets flow; has = is; more = End ∷ []; lines = refl }
+can_end (Listed (Priced total paid sets flow)) is = record { cert = Priced total paid sets flow; has = is; more = End ∷ []; lines = refl }
+can_end (Listed (NoSeries [])) is = record { cert = NoSeries (some_name ∷ []); has = (omega arith, (some_name_is, tt)); more = Step some_name ∷ End ∷ []; lines = refl }
+can_end (Listed (NoSeries (name ∷ steps))) is = record { cert = NoSeries (name ∷ steps); has = (omega arith, is); more = End ∷ []; lines = refl }
+can_end (Ended cert) is = record { cert = cert; has = is; more = []; lines = sym (append-nil (lines_of_cert cert)) }
+
+-- ---- the numbers of its lines are within limits
+
+lists_within : (sets : List SetLine) (flow : List FlowItem) → AreLists sets flow → AllByRecursion IsLine (map Set sets ++ map Flow flow)
+lists_within sets flow are = all_append IsLine (map Set sets) (map Flow flow) (all_map IsLine Set sets are.each_set) (all_map IsLine Flow flow are.each_item)
+
+before_end_within : (cert : Cert) → HasLists cert → AllByRecursion IsLine (lines_before_end cert)
+before_end_within (Repair total sets flow) has = (tt, (tt, (has.0, lists_within sets flow has.1)))
+before_end_within (Priced total paid sets flow) has = (tt, (tt, (has.0, (has.1, lists_within sets flow has.2))))
+before_end_within (NoSeries steps) has = (tt, (tt, all_map IsLine Step steps has))
+
+pub cert_within : (cert : Cert) → HasText cert → AllByRecursion IsLine (lines_of_cert cert)
+cert_within cert has = all_push IsLine (lines_before_end cert) End (before_end_within cert (has_lists cert has)) tt
+
+pub draft_within : (draft : Draft) → IsDraft draft → AllByRecursion IsLine (so_far draft)
+draft_within Empty is = tt
+draft_within (Headed version) is = (tt, tt)
+draft_within (Claimed version) is = (tt, (tt, tt))
+draft_within (Totalled total) is = (tt, (tt, (is, tt)))
+draft_within (Listed cert) is = before_end_within cert is
+draft_within (Ended cert) is = cert_within cert is

@@ -1,5 +1,4 @@
-use Rattle.cert_format.proofs.Lines.{one_line}
-use Rattle.cert_format.proofs.Drafts.{may_come, goes_on, one_cert}
+use Rattle.cert_format.proofs.Refusals.{refused_line, refused_without_feed}
 use Rattle.cert_format.proofs.laws.one_spelling.Goals as goal
 
 pub returns : goal.returns
