@@ -1,7 +1,10 @@
+pub mod Decided
 pub mod Digits
 pub mod Drafts
+pub mod Lengths
 pub mod Lines
 pub mod Members
+pub mod OneAnswer
 pub mod Refusals
 pub mod Texts
 pub mod Words
