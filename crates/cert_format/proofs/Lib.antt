@@ -4,6 +4,7 @@ pub mod Drafts
 pub mod Lengths
 pub mod Lines
 pub mod Members
+pub mod Numbers
 pub mod OneAnswer
 pub mod Refusals
 pub mod Texts

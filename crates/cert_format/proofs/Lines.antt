@@ -132,7 +132,7 @@ line_by first second words =
 abbrev pub line_in : List (List ℕ) → Line
 line_in words = line_by (get_or (word_at 0 words) 0 0) (get_or (word_at 0 words) 1 0) words
 
-first_is_no_sign : (n : ℕ) → n < 10 ^ 64 → eqb (get_or (decimal n) 0 0) 45 ≡ false
+pub first_is_no_sign : (n : ℕ) → n < 10 ^ 64 → eqb (get_or (decimal n) 0 0) 45 ≡ false
 first_is_no_sign n small =
     let range = digit_at (decimal n) 0 (digits-decimal n small) (decimal_some n small) in
     ne_eqb (get_or (decimal n) 0 0) 45 (λ e. omega (arith, e, range.0))

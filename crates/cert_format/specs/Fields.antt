@@ -5,8 +5,9 @@ use Rattle.std.specs.List.{AllByRecursion}
 use Rattle.screen_model.specs.declared.bound.BoundName.{BoundName}
 use Rattle.screen_model.specs.declared.bound.FlowItem.{FlowItem}
 use Rattle.cert_format.specs.declared.cert.SetLine.{SetLine}
-use Rattle.cert_format.specs.Words.{space, line_of_words}
-use Rattle.cert_format.specs.Line.{name_words}
+use Rattle.cert_format.specs.declared.line.Line.{Line}
+use Rattle.cert_format.specs.Words.{space, line_feed, line_of_words}
+use Rattle.cert_format.specs.Line.{IsLine, name_words, text_of_line}
 
 -- no such byte is among these
 abbrev pub Lacks : ℕ → List ℕ → Type 0
@@ -17,6 +18,16 @@ pub record IsNumberThen (least most : ℕ) (bytes : List ℕ) (number : ℕ) (re
   pub low : least ≤ number
   pub high : number ≤ most
   pub text : bytes ≡ decimal number ++ space ∷ rest
+
+-- the bytes are the text of a line within limits, a line feed, and the rest
+pub record IsLineThen (bytes : List ℕ) (line : Line) (rest : List ℕ) : Type 0 where
+  pub is : IsLine line
+  pub text : bytes ≡ text_of_line line ++ line_feed ∷ rest
+
+-- no line feed follows, or one follows no line's text
+pub data HasNoLine (bytes : List ℕ) : Type 0 where
+  no_feed : Lacks line_feed bytes → HasNoLine bytes
+  no_line : (text rest : List ℕ) → bytes ≡ text ++ line_feed ∷ rest → Lacks line_feed text → ((line : Line) → IsLine line → text ≢ text_of_line line) → HasNoLine bytes
 
 -- the words after the first, as they stand in a line
 abbrev pub set_fields : SetLine → List ℕ

@@ -38,7 +38,8 @@ fn value_of(word: &[u8]) -> Option<u128>
 
 /// The number whose spelling the word is, if it has at most so many digits.
 fn number_of(word: &[u8], most_digits: usize) -> Option<u128>
-    requires { most_digits ≤ 30 }
+    requires some { 1 ≤ most_digits }
+    requires few { most_digits ≤ 30 }
     ensures found { IfSome result (λ number. (number < 10 ^ most_digits) × (word.now ≡ decimal number)) }
     ensures only { (number : ℕ) → number < 10 ^ most_digits → word.now ≡ decimal number → IsSomeAnd result (λ found. found ≡ number) }
 {
@@ -55,7 +56,7 @@ pub(crate) fn number_then(bytes: &[u8], least: u32, most: u32) -> Option<(u32, &
         IsSomeAnd result (λ field. (field.0 ≡ number) × (field.1.now ≡ rest)) }
 {
     let (word, rest) = split_at(bytes, b' ')?;
-    let number = number_of(word, 9)?;
+    let number = number_of(word, 10)?;
     if number < u128::from(least) || u128::from(most) < number {
         return None;
     }

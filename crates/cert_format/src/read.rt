@@ -1,8 +1,9 @@
 //! The certificate that a text is.
-ghost use Rattle.std.specs.Prelude.{◌≡◌, ◌≢◌, ◌≤◌, length, Result, IfOk, IfErr};
+ghost use Rattle.std.specs.Prelude.{◌≡◌, ◌≢◌, ◌≤◌, length, Result, IfOk, IfErr, IfSome, IfNone};
 ghost use Rattle.words.specs.Answers.{UnlessMemory};
 ghost use Rattle.cert_format.specs.declared.cert.Cert.{Cert};
 ghost use Rattle.cert_format.specs.declared.fault.CertRead.{CertRead};
+ghost use Rattle.cert_format.specs.Fields.{HasNoLine, IsLineThen};
 ghost use Rattle.cert_format.specs.Reads.{Reads, Spells, Refuses};
 
 use crate::cert::Cert;
@@ -40,14 +41,17 @@ pub fn read_cert(alloc: Global, bytes: &[u8]) -> Result<Cert, CertRead>
         rest = after;
         number += 1;
     }
-    match draft.whole() {
-        Some(cert) if rest.is_empty() => Ok(cert),
-        _ => Err(CertRead::Syntax { line: number }),
+    if !rest.is_empty() {
+        return Err(CertRead::Syntax { line: number });
     }
+    draft.whole().ok_or(CertRead::Syntax { line: number })
 }
 
 /// The line that the bytes begin with, and the bytes after its line feed.
-fn line_at(bytes: &[u8]) -> Option<(Line, &[u8])> {
+fn line_at(bytes: &[u8]) -> Option<(Line, &[u8])>
+    ensures found { IfSome result (λ field. IsLineThen bytes.now field.0 field.1.now) }
+    ensures none { IfNone result (HasNoLine bytes.now) }
+{
     let (line, rest) = split_at(bytes, b'\n')?;
     Some((line_of(line)?, rest))
 }
