@@ -1,5 +1,5 @@
 -- A line and its text: each tells the other.
-use Rattle.std.proofs.Common.{◌≡◌, ◌≢◌, ℕ, zero, suc, ◌+◌, ◌^◌, ◌<◌, ◌≤◌, Bool, true, false, cond, eqb, ne_eqb, ℤ, pos, negsuc, neg_ℤ, List, [], ◌∷◌, ◌++◌, length, get_or, drop, refl, sym, ap, ◌∙◌, subst, arith}
+use Rattle.std.proofs.Common.{◌≡◌, ◌≢◌, ℕ, zero, suc, ◌+◌, ◌^◌, ◌<◌, ◌≤◌, Bool, true, false, cond, eqb, ne_eqb, ℤ, pos, negsuc, neg_ℤ, List, [], ◌∷◌, ◌++◌, length, get_or, drop, append_assoc, refl, sym, ap, ◌∙◌, subst, arith}
 use Rattle.std.specs.Prelude.{codes, decimal, unsigned_abs}
 use Rattle.std.specs.Fmt.{signed_decimal}
 use Rattle.std.specs.List.{AllByRecursion}
@@ -15,9 +15,9 @@ use Rattle.cert_format.specs.declared.line.Version.{Version}
 use Rattle.cert_format.specs.declared.line.Version.TheVariants.{One, Two}
 use Rattle.cert_format.specs.declared.line.Line.{Line}
 use Rattle.cert_format.specs.declared.line.Line.TheVariants.{Header, ClaimRepair, ClaimNone, Total, Paid, Set, Flow, Step, End}
-use Rattle.cert_format.specs.Words.{line_feed, line_of_words}
+use Rattle.cert_format.specs.Words.{space, line_feed, line_of_words}
 use Rattle.cert_format.specs.Line.{IsPlace, IsName, IsValue, IsAmount, IsTotal, IsSet, IsItem, IsLine, version_word, side_word, name_words, words_of, text_of_line}
-use Rattle.cert_format.specs.Fields.{Lacks}
+use Rattle.cert_format.specs.Fields.{Lacks, item_fields, name_fields}
 use Rattle.cert_format.proofs.Digits.{value-decimal, digits-decimal, decimal_some}
 use Rattle.cert_format.proofs.Words.{IsWord, word_by_test, word_of_digits, line_lacks_feed, words_in, words_in-line}
 
@@ -101,7 +101,7 @@ name_of_parts rule from to col side = record { rule = rule; from_row = from; to_
 abbrev set_of_parts : ℕ → ℕ → ℤ → SetLine
 set_of_parts row col value = record { place = record { row = row; col = col }; value = value }
 
-abbrev item_of_parts : BoundName → ℤ → FlowItem
+abbrev pub item_of_parts : BoundName → ℤ → FlowItem
 item_of_parts name amount = record { name = name; amount = amount }
 
 abbrev name_in : List (List ℕ) → BoundName
@@ -215,3 +215,23 @@ line_at-text line is = ap line_in (words_back (words_of line) (some_words line) 
 -- two lines with one text are equal
 pub one_line : (line other : Line) → IsLine line → IsLine other → text_of_line line ≡ text_of_line other → line ≡ other
 one_line line other is is_other e = sym (line_at-text line is) ∙ ap line_at e ∙ line_at-text other is_other
+
+-- ---- the words of an item
+
+pub item_fields-split : (item : FlowItem) → item_fields item ≡ name_fields item.name ++ space ∷ signed_decimal item.amount
+item_fields-split item =
+    let amount = space ∷ signed_decimal item.amount in
+    let side = side_word item.name.side in
+    let col = decimal item.name.col ++ space ∷ side in
+    let to = decimal item.name.to_row ++ space ∷ col in
+    let from = decimal item.name.from_row ++ space ∷ to in
+    sym (
+      append_assoc (decimal item.name.rule) (space ∷ from) amount
+      ∙ ap (λ s. decimal item.name.rule ++ space ∷ s) (
+        append_assoc (decimal item.name.from_row) (space ∷ to) amount
+        ∙ ap (λ s. decimal item.name.from_row ++ space ∷ s) (
+          append_assoc (decimal item.name.to_row) (space ∷ col) amount
+          ∙ ap (λ s. decimal item.name.to_row ++ space ∷ s) (append_assoc (decimal item.name.col) (space ∷ side) amount)
+        )
+      )
+    )

@@ -6,6 +6,7 @@ use Rattle.screen_model.specs.declared.bound.BoundName.{BoundName}
 use Rattle.screen_model.specs.declared.bound.FlowItem.{FlowItem}
 use Rattle.cert_format.specs.declared.cert.SetLine.{SetLine}
 use Rattle.cert_format.specs.declared.line.Line.{Line}
+use Rattle.cert_format.specs.declared.line.Line.TheVariants.{Header, ClaimRepair, ClaimNone, Total, Paid, Set, Flow, Step, End}
 use Rattle.cert_format.specs.Words.{space, line_feed, line_of_words}
 use Rattle.cert_format.specs.Line.{IsLine, name_words, text_of_line}
 
@@ -18,6 +19,17 @@ pub record IsNumberThen (least most : ℕ) (bytes : List ℕ) (number : ℕ) (re
   pub low : least ≤ number
   pub high : number ≤ most
   pub text : bytes ≡ decimal number ++ space ∷ rest
+
+abbrev pub HasNoNumber : Line → Type 0
+HasNoNumber (Header version) = Unit {0}
+HasNoNumber ClaimRepair = Unit {0}
+HasNoNumber ClaimNone = Unit {0}
+HasNoNumber End = Unit {0}
+HasNoNumber (Total total) = ⊥
+HasNoNumber (Paid paid) = ⊥
+HasNoNumber (Set line) = ⊥
+HasNoNumber (Flow item) = ⊥
+HasNoNumber (Step name) = ⊥
 
 -- the bytes are the text of a line within limits, a line feed, and the rest
 pub record IsLineThen (bytes : List ℕ) (line : Line) (rest : List ℕ) : Type 0 where

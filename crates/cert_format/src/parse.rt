@@ -1,12 +1,12 @@
 //! The line that some bytes are, without its line feed.
-ghost use Rattle.std.specs.Prelude.{◌≡◌, List, ℕ, ◌++◌, IfSome, IsSomeAnd};
+ghost use Rattle.std.specs.Prelude.{◌≡◌, ◌↔◌, List, ℕ, ◌++◌, IfSome, IsSomeAnd, IsTrue};
 ghost use Rattle.screen_model.specs.declared.bound.BoundName.{BoundName};
 ghost use Rattle.screen_model.specs.declared.bound.FlowItem.{FlowItem};
 ghost use Rattle.screen_model.specs.declared.bound.Side.{Side};
 ghost use Rattle.cert_format.specs.declared.cert.SetLine.{SetLine};
 ghost use Rattle.cert_format.specs.declared.line.Line.{Line};
 ghost use Rattle.cert_format.specs.Line.{IsName, IsItem, IsSet, IsLine, side_word, text_of_line};
-ghost use Rattle.cert_format.specs.Fields.{set_fields, item_fields, name_fields};
+ghost use Rattle.cert_format.specs.Fields.{HasNoNumber, item_fields, name_fields, set_fields};
 
 use crate::cert::SetLine;
 use crate::limits::{MOST_COL, MOST_ROW, MOST_RULE};
@@ -34,14 +34,34 @@ pub(crate) fn line_of(bytes: &[u8]) -> Option<Line>
     if let Some(word) = bytes.strip_prefix(b"paid ") {
         return Some(Line::Paid(total_of(word)?));
     }
-    match bytes {
-        b"screen-cert 1" => Some(Line::Header(Version::One)),
-        b"screen-cert 2" => Some(Line::Header(Version::Two)),
-        b"claim repair" => Some(Line::ClaimRepair),
-        b"claim none" => Some(Line::ClaimNone),
-        b"end" => Some(Line::End),
-        _ => None,
+    plain_line(bytes)
+}
+
+/// The line without a number in its words that the bytes are.
+fn plain_line(bytes: &[u8]) -> Option<Line>
+    ensures found { IfSome result (λ line. IsLine line × (bytes.now ≡ text_of_line line)) }
+    ensures only { (line : Line) → HasNoNumber line → bytes.now ≡ text_of_line line → IsSomeAnd result (λ found. found ≡ line) }
+{
+    if is_text(bytes, b"screen-cert 1") {
+        Some(Line::Header(Version::One))
+    } else if is_text(bytes, b"screen-cert 2") {
+        Some(Line::Header(Version::Two))
+    } else if is_text(bytes, b"claim repair") {
+        Some(Line::ClaimRepair)
+    } else if is_text(bytes, b"claim none") {
+        Some(Line::ClaimNone)
+    } else if is_text(bytes, b"end") {
+        Some(Line::End)
+    } else {
+        None
     }
+}
+
+/// Whether the bytes are this text.
+fn is_text(bytes: &[u8], text: &[u8]) -> bool
+    ensures { IsTrue result ↔ (bytes.now ≡ text.now) }
+{
+    bytes == text
 }
 
 /// The set line that has these words after the first.
