@@ -1,13 +1,14 @@
 //! The strict orders of set lines and flow lines.
-ghost use Rattle.std.specs.Prelude.{◌≡◌, ◌∷◌, []};
+ghost use Rattle.std.specs.Prelude.{◌≡◌, length};
 ghost use Rattle.cert_format.specs.Draft.{follows};
 ghost use Rattle.cert_format.specs.Order.{is_before, item_key, name_key, place_key, set_key};
 
 use crate::cert::SetLine;
 use screen_model::{BoundName, FlowItem, Place, Side};
 
-/// Whether the first list has the lesser number where the two differ first.
+/// Whether the first list has the lesser number where the two differ first. They are of one length.
 fn is_before(first: &[u32], second: &[u32]) -> bool
+    requires { length first.now ≡ length second.now }
     ensures { result ≡ is_before first.now second.now }
 {
     for (one, other) in first.iter().zip(second) {
