@@ -92,7 +92,7 @@ pub record AreMore (sets : List SetLine) (flow : List FlowItem) (line : Line) (l
   pub are : AreLists lists.0 lists.1
   pub lines : map Set lists.0 ++ map Flow lists.1 ≡ (map Set sets ++ map Flow flow) ++ line ∷ []
 
-none_left : {A : Type 0} (xs : List A) → eqb (length xs) 0 ≡ true → xs ≡ []
+pub none_left : {A : Type 0} (xs : List A) → eqb (length xs) 0 ≡ true → xs ≡ []
 none_left [] e = refl
 none_left (x ∷ xs) e = absurd (let long : suc (length xs) ≡ 0 = eqb-true (suc (length xs)) 0 e in omega arith)
 

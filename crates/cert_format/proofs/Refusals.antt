@@ -1,17 +1,19 @@
 -- What has been read of some bytes, and what follows from the next line of theirs.
-use Rattle.std.proofs.Common.{◌≡◌, ◌≢◌, ℕ, zero, suc, ◌+◌, ◌<◌, ◌≤◌, ◌⊎◌, inl, inr, List, [], ◌∷◌, ◌++◌, map, length, length-append, append_assoc, append-nil, Option, Some, None, IsSomeAnd, refl, sym, ap, ◌∙◌, subst, arith}
+use Rattle.std.proofs.Common.{◌≡◌, ◌≢◌, ℕ, zero, suc, ◌+◌, ◌<◌, ◌≤◌, ◌⊎◌, inl, inr, List, [], ◌∷◌, ◌++◌, map, length, length-append, append_assoc, append-nil, Option, Some, None, IsSomeAnd, Err, refl, sym, ap, ◌∙◌, subst, arith}
 use Rattle.std.specs.List.{AllByRecursion}
+use Rattle.std.specs.Option.{ok_or}
 use Rattle.std.proofs.lemmas.List.{map-append, length-map}
 use Rattle.words.proofs.Lists.{all_map, all_of_append, all_weaker}
 use Rattle.cert_format.specs.declared.cert.Cert.{Cert}
+use Rattle.cert_format.specs.declared.fault.CertRead.TheVariants.{Syntax}
 use Rattle.cert_format.specs.declared.draft.Draft.{Draft}
 use Rattle.cert_format.specs.declared.draft.Draft.TheVariants.{Empty, Headed, Claimed, Totalled, Listed, Ended}
 use Rattle.cert_format.specs.declared.line.Line.{Line}
 use Rattle.cert_format.specs.Words.{line_feed, text_of_lines, first_lines}
 use Rattle.cert_format.specs.Line.{IsLine, text_of_line}
 use Rattle.cert_format.specs.Cert.{HasText, lines_of_cert, text_of_cert}
-use Rattle.cert_format.specs.Reads.{IsTextOf, BeginsText, BeginsWell, IsRefusedAfter}
-use Rattle.cert_format.specs.Fields.{Lacks}
+use Rattle.cert_format.specs.Reads.{IsTextOf, BeginsText, BeginsWell, IsRefusedAfter, Reads}
+use Rattle.cert_format.specs.Fields.{Lacks, IsLineThen, HasNoLine, no_feed, no_line}
 use Rattle.cert_format.specs.Draft.{next, whole}
 use Rattle.cert_format.proofs.Texts.{AreLines, split_one, not_among, text-append, led, lines_go_on, length-text, first_lines-text, first_lines-one_more, first_lines-too_many}
 use Rattle.cert_format.proofs.Lines.{lacks_feed, one_line}
@@ -192,3 +194,26 @@ refused_line bytes draft text after read lacks may_not =
       before = before_is bytes draft (text ++ line_feed ∷ after) read;
       here = λ begins. front_not draft text read.is lacks may_not (subst (λ s. IsSomeAnd s BeginsText) found begins);
     }
+
+-- ---- by what the reader finds
+
+pub refused_next : (bytes : List ℕ) (draft : Draft) (rest : List ℕ) (line : Line) (after : List ℕ) → IsReadTo bytes draft rest → IsLineThen rest line after → next draft line ≡ None → IsRefusedAfter (length (so_far draft)) bytes
+refused_next bytes draft rest line after read found none =
+    let here : IsReadTo bytes draft (text_of_line line ++ line_feed ∷ after) = subst (IsReadTo bytes draft) found.text read in
+    refused_line bytes draft (text_of_line line) after here (lacks_feed line found.is) (λ other is e. subst (λ l. next draft l ≡ None) (one_line line other found.is is (sym e)) none)
+
+pub refused_at : (bytes : List ℕ) (draft : Draft) (rest : List ℕ) → IsReadTo bytes draft rest → HasNoLine rest → (whole draft ≡ None) ⊎ (rest ≢ []) → IsRefusedAfter (length (so_far draft)) bytes
+refused_at bytes draft rest read (no_feed lacks) unfinished = refused_without_feed bytes draft rest read lacks unfinished
+refused_at bytes draft rest read (no_line text after e lacks never) unfinished =
+    refused_line bytes draft text after (subst (IsReadTo bytes draft) e read) lacks (λ line is text_is. absurd (never line is (sym text_is)))
+
+pub refuses : (bytes : List ℕ) (n number : ℕ) → number ≡ n + 1 → IsRefusedAfter n bytes → Reads bytes (Err (Syntax number))
+refuses bytes n number e is =
+    let next_number : suc n ≡ number = omega arith in
+    subst (λ k. Reads bytes (Err (Syntax k))) next_number is
+
+-- the end of the bytes after some lines
+pub reads_end : (bytes : List ℕ) (draft : Draft) (rest : List ℕ) (number : ℕ) (found : Option Cert) → IsReadTo bytes draft rest → HasNoLine rest → number ≡ length (so_far draft) + 1 → rest ≡ []
+    → found ≡ whole draft → Reads bytes (ok_or found (Syntax number))
+reads_end bytes draft rest number None read none e at_end is = refuses bytes (length (so_far draft)) number e (refused_at bytes draft rest read none (inl (sym is)))
+reads_end bytes draft rest number (Some cert) read none e at_end is = accepted_text bytes draft cert (subst (IsReadTo bytes draft) at_end read) (sym is)

@@ -1,6 +1,8 @@
 //! The text of a certificate.
-ghost use Rattle.std.specs.Prelude.{◌≡◌, ◌++◌, map, IfOk, OnOk};
-
+ghost use Rattle.std.specs.Prelude.{◌≡◌, ◌++◌, ◌∷◌, [], map, decimal, IfOk, OnOk};
+ghost use Rattle.cert_format.specs.declared.line.Line.TheVariants.{Set, Flow, Step};
+ghost use Rattle.cert_format.specs.Words.{line_feed, space, text_of_lines};
+ghost use Rattle.cert_format.specs.Fields.{name_fields};
 ghost use Rattle.cert_format.specs.Line.{text_of_line};
 ghost use Rattle.cert_format.specs.Cert.{HasText, text_of_cert};
 
@@ -46,7 +48,9 @@ pub fn write_cert(alloc: Global, cert: &Cert) -> Result<Vec<u8>, AllocError>
 }
 
 /// Adds the lines of a repair's lists.
-fn push_lists(text: &mut Vec<u8>, sets: &SetList, flow: &FlowList) -> Result<(), AllocError> {
+fn push_lists(text: &mut Vec<u8>, sets: &SetList, flow: &FlowList) -> Result<(), AllocError>
+    ensures { OnOk result (text.new.items ≡ text.old.items ++ text_of_lines (map text_of_line (map Set sets.now ++ map Flow flow.now))) }
+{
     for line in sets.as_slice() {
         push_whole(text, Line::Set(*line))?;
     }
@@ -57,7 +61,9 @@ fn push_lists(text: &mut Vec<u8>, sets: &SetList, flow: &FlowList) -> Result<(),
 }
 
 /// Adds the lines of a cycle's steps.
-fn push_steps(text: &mut Vec<u8>, steps: &NameList) -> Result<(), AllocError> {
+fn push_steps(text: &mut Vec<u8>, steps: &NameList) -> Result<(), AllocError>
+    ensures { OnOk result (text.new.items ≡ text.old.items ++ text_of_lines (map text_of_line (map Step steps.now))) }
+{
     for name in steps.as_slice() {
         push_whole(text, Line::Step(*name))?;
     }
@@ -65,7 +71,9 @@ fn push_steps(text: &mut Vec<u8>, steps: &NameList) -> Result<(), AllocError> {
 }
 
 /// Adds a line with its line feed.
-fn push_whole(text: &mut Vec<u8>, line: Line) -> Result<(), AllocError> {
+fn push_whole(text: &mut Vec<u8>, line: Line) -> Result<(), AllocError>
+    ensures { OnOk result (text.new.items ≡ text.old.items ++ (text_of_line line ++ line_feed ∷ [])) }
+{
     push_line(text, line)?;
     text.extend_from_slice(b"\n")
 }
@@ -109,7 +117,9 @@ pub fn push_line(text: &mut Vec<u8>, line: Line) -> Result<(), AllocError>
 }
 
 /// Adds the words of a name.
-fn push_name(text: &mut Vec<u8>, name: BoundName) -> Result<(), AllocError> {
+fn push_name(text: &mut Vec<u8>, name: BoundName) -> Result<(), AllocError>
+    ensures { OnOk result (text.new.items ≡ text.old.items ++ name_fields name) }
+{
     push_number(text, name.rule)?;
     push_number(text, name.from_row)?;
     push_number(text, name.to_row)?;
@@ -122,7 +132,9 @@ fn push_name(text: &mut Vec<u8>, name: BoundName) -> Result<(), AllocError> {
 }
 
 /// Adds a number and a space.
-fn push_number(text: &mut Vec<u8>, number: u32) -> Result<(), AllocError> {
+fn push_number(text: &mut Vec<u8>, number: u32) -> Result<(), AllocError>
+    ensures { OnOk result (text.new.items ≡ text.old.items ++ (decimal number ++ space ∷ [])) }
+{
     let mut digits = Buffer::new();
     text.extend_from_slice(digits.format(number).as_bytes())?;
     text.extend_from_slice(b" ")
