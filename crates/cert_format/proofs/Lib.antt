@@ -7,6 +7,7 @@ pub mod Lines
 pub mod Members
 pub mod Numbers
 pub mod OneAnswer
+pub mod Pushed
 pub mod Refusals
 pub mod Texts
 pub mod Words

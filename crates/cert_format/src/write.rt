@@ -4,12 +4,12 @@ ghost use Rattle.cert_format.specs.declared.line.Line.TheVariants.{Set, Flow, St
 ghost use Rattle.cert_format.specs.Words.{line_feed, space, text_of_lines};
 ghost use Rattle.cert_format.specs.Fields.{name_fields};
 ghost use Rattle.cert_format.specs.Line.{text_of_line};
-ghost use Rattle.cert_format.specs.Cert.{HasText, text_of_cert};
+ghost use Rattle.cert_format.specs.Cert.{HasText, lines_before_end, text_of_cert};
 
-use crate::cert::{Cert, SetList};
+use crate::cert::{Cert, SetLine, SetList};
 use crate::line::{Line, Version};
 use itoa::Buffer;
-use screen_model::{BoundName, FlowList, NameList, Side};
+use screen_model::{BoundName, FlowItem, FlowList, NameList, Side};
 use std::alloc::{AllocError, Global};
 
 /// The text of a certificate.
@@ -18,53 +18,101 @@ pub fn write_cert(alloc: Global, cert: &Cert) -> Result<Vec<u8>, AllocError>
     ensures { IfOk result (λ text. text.items ≡ text_of_cert cert.now) }
 {
     let mut text = Vec::new(alloc);
+    push_before_end(&mut text, cert)?;
+    push_whole(&mut text, Line::End)?;
+    Ok(text)
+}
+
+/// Adds the lines of a certificate, without the last one.
+fn push_before_end(text: &mut Vec<u8>, cert: &Cert) -> Result<(), AllocError>
+    ensures { OnOk result (text.new.items ≡ text.old.items ++ text_of_lines (map text_of_line (lines_before_end cert.now))) }
+{
     match cert {
-        Cert::Repair { total, sets, flow } => {
-            push_whole(&mut text, Line::Header(Version::One))?;
-            push_whole(&mut text, Line::ClaimRepair)?;
-            push_whole(&mut text, Line::Total(*total))?;
-            push_lists(&mut text, sets, flow)?;
-        }
+        Cert::Repair { total, sets, flow } => push_repair(text, *total, sets, flow),
         Cert::Priced {
             total,
             paid,
             sets,
             flow,
-        } => {
-            push_whole(&mut text, Line::Header(Version::Two))?;
-            push_whole(&mut text, Line::ClaimRepair)?;
-            push_whole(&mut text, Line::Total(*total))?;
-            push_whole(&mut text, Line::Paid(*paid))?;
-            push_lists(&mut text, sets, flow)?;
-        }
-        Cert::NoSeries { steps } => {
-            push_whole(&mut text, Line::Header(Version::One))?;
-            push_whole(&mut text, Line::ClaimNone)?;
-            push_steps(&mut text, steps)?;
-        }
+        } => push_priced(text, *total, *paid, sets, flow),
+        Cert::NoSeries { steps } => push_cycle(text, steps),
     }
-    push_whole(&mut text, Line::End)?;
-    Ok(text)
+}
+
+/// Adds the lines of a repair, without the last one.
+fn push_repair(
+    text: &mut Vec<u8>,
+    total: i128,
+    sets: &SetList,
+    flow: &FlowList,
+) -> Result<(), AllocError>
+    ensures { OnOk result (text.new.items ≡ text.old.items ++ text_of_lines (map text_of_line (lines_before_end (Cert.Repair total sets.now flow.now)))) }
+{
+    push_whole(text, Line::Header(Version::One))?;
+    push_whole(text, Line::ClaimRepair)?;
+    push_whole(text, Line::Total(total))?;
+    push_lists(text, sets, flow)
+}
+
+/// Adds the lines of a priced repair, without the last one.
+fn push_priced(
+    text: &mut Vec<u8>,
+    total: i128,
+    paid: i128,
+    sets: &SetList,
+    flow: &FlowList,
+) -> Result<(), AllocError>
+    ensures { OnOk result (text.new.items ≡ text.old.items ++ text_of_lines (map text_of_line (lines_before_end (Cert.Priced total paid sets.now flow.now)))) }
+{
+    push_whole(text, Line::Header(Version::Two))?;
+    push_whole(text, Line::ClaimRepair)?;
+    push_whole(text, Line::Total(total))?;
+    push_whole(text, Line::Paid(paid))?;
+    push_lists(text, sets, flow)
+}
+
+/// Adds the lines of a cycle, without the last one.
+fn push_cycle(text: &mut Vec<u8>, steps: &NameList) -> Result<(), AllocError>
+    ensures { OnOk result (text.new.items ≡ text.old.items ++ text_of_lines (map text_of_line (lines_before_end (Cert.NoSeries steps.now)))) }
+{
+    push_whole(text, Line::Header(Version::One))?;
+    push_whole(text, Line::ClaimNone)?;
+    push_steps(text, steps.as_slice())
 }
 
 /// Adds the lines of a repair's lists.
 fn push_lists(text: &mut Vec<u8>, sets: &SetList, flow: &FlowList) -> Result<(), AllocError>
     ensures { OnOk result (text.new.items ≡ text.old.items ++ text_of_lines (map text_of_line (map Set sets.now ++ map Flow flow.now))) }
 {
-    for line in sets.as_slice() {
-        push_whole(text, Line::Set(*line))?;
+    push_sets(text, sets.as_slice())?;
+    push_items(text, flow.as_slice())
+}
+
+/// Adds set lines.
+fn push_sets(text: &mut Vec<u8>, sets: &[SetLine]) -> Result<(), AllocError>
+    ensures { OnOk result (text.new.items ≡ text.old.items ++ text_of_lines (map text_of_line (map Set sets.now))) }
+{
+    for set in sets {
+        push_whole(text, Line::Set(*set))?;
     }
-    for item in flow.as_slice() {
+    Ok(())
+}
+
+/// Adds flow lines.
+fn push_items(text: &mut Vec<u8>, flow: &[FlowItem]) -> Result<(), AllocError>
+    ensures { OnOk result (text.new.items ≡ text.old.items ++ text_of_lines (map text_of_line (map Flow flow.now))) }
+{
+    for item in flow {
         push_whole(text, Line::Flow(*item))?;
     }
     Ok(())
 }
 
-/// Adds the lines of a cycle's steps.
-fn push_steps(text: &mut Vec<u8>, steps: &NameList) -> Result<(), AllocError>
+/// Adds step lines.
+fn push_steps(text: &mut Vec<u8>, steps: &[BoundName]) -> Result<(), AllocError>
     ensures { OnOk result (text.new.items ≡ text.old.items ++ text_of_lines (map text_of_line (map Step steps.now))) }
 {
-    for name in steps.as_slice() {
+    for name in steps {
         push_whole(text, Line::Step(*name))?;
     }
     Ok(())
