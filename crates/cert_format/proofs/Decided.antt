@@ -58,11 +58,11 @@ name_or name =
     (λ h. record { rule = h.0; from_least = h.1.0; from_most = h.1.1.0; to_least = h.1.1.1.0; to_most = h.1.1.1.1.0; col_least = h.1.1.1.1.1.0; col_most = h.1.1.1.1.1.1 })
     (λ is. (is.rule, (is.from_least, (is.from_most, (is.to_least, (is.to_most, (is.col_least, is.col_most)))))))
     (
-      both (at_most name.rule MOST_RULE) (
-        both (at_most 1 name.from_row) (
-          both (at_most name.from_row MOST_ROW) (both (at_most 1 name.to_row) (both (at_most name.to_row MOST_ROW) (both (at_most 1 name.col) (at_most name.col MOST_COL))))
-        )
-      )
+    both (at_most name.rule MOST_RULE) (
+    both (at_most 1 name.from_row) (
+    both (at_most name.from_row MOST_ROW) (both (at_most 1 name.to_row) (both (at_most name.to_row MOST_ROW) (both (at_most 1 name.col) (at_most name.col MOST_COL))))
+    )
+    )
     )
 
 value_or : (value : ℤ) → Or (IsValue value)
@@ -161,7 +161,7 @@ with_line : (bytes : List ℕ) (draft : Draft) (text after : List ℕ) (line : L
     → ((later : Draft) → IsReadTo bytes later after → HasAnswer bytes) → IsReadTo bytes draft (text ++ line_feed ∷ after) → HasAnswer bytes
 with_line bytes draft text after line None e is text_is lacks answers read =
     refused (length (so_far draft)) bytes (
-      refused_line bytes draft text after read lacks (λ other is_other other_text. subst (λ l. next draft l ≡ None) (one_line line other is is_other (text_is ∙ sym other_text)) e)
+    refused_line bytes draft text after read lacks (λ other is_other other_text. subst (λ l. next draft l ≡ None) (one_line line other is is_other (text_is ∙ sym other_text)) e)
     )
 with_line bytes draft text after line (Some later) e is text_is lacks answers read =
     answers later (read_on bytes draft (text ++ line_feed ∷ after) line after later read is (ap (λ s. s ++ line_feed ∷ after) (sym text_is)) e).read

@@ -181,7 +181,7 @@ may_have (Priced total paid sets some) (Priced other other_paid all flow) line m
     let same : total ≡ other = cc in
     let same_paid : paid ≡ other_paid = cc in
     subst (λ t. MayHave (Priced total paid sets some) (Priced t other_paid all flow) line more) same (
-      subst (λ p. MayHave (Priced total paid sets some) (Priced total p all flow) line more) same_paid (priced_may total paid sets all some flow line more (may_follow sets all some flow line more has.2 (cc)))
+    subst (λ p. MayHave (Priced total paid sets some) (Priced total p all flow) line more) same_paid (priced_may total paid sets all some flow line more (may_follow sets all some flow line more has.2 (cc)))
     )
 may_have (NoSeries steps) (NoSeries all) line more has e = steps_may steps all line more (next_of Step step_kind steps all line more (cc))
 may_have (Repair total sets some) (Priced other paid all flow) line more has e = absurd (cc)

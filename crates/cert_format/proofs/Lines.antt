@@ -117,15 +117,15 @@ item_in words = item_of_parts (name_in words) (signed_in (word_at 6 words))
 abbrev line_by : ℕ → ℕ → List (List ℕ) → Line
 line_by first second words =
     cond (eqb first 102) (Flow (item_in words)) (
-      cond (eqb first 116) (Total (signed_in (word_at 1 words))) (
-        cond (eqb first 112) (Paid (signed_in (word_at 1 words))) (
-          cond (eqb first 99) (claim_in (word_at 1 words)) (
-            cond (eqb first 101) End (
-              cond (eqb second 99) (Header (version_in (word_at 1 words))) (cond (eqb second 101) (Set (set_in words)) (Step (name_in words)))
-            )
-          )
-        )
-      )
+    cond (eqb first 116) (Total (signed_in (word_at 1 words))) (
+    cond (eqb first 112) (Paid (signed_in (word_at 1 words))) (
+    cond (eqb first 99) (claim_in (word_at 1 words)) (
+    cond (eqb first 101) End (
+    cond (eqb second 99) (Header (version_in (word_at 1 words))) (cond (eqb second 101) (Set (set_in words)) (Step (name_in words)))
+    )
+    )
+    )
+    )
     )
 
 -- the only line that may have these words
@@ -226,12 +226,12 @@ item_fields-split item =
     let to = decimal item.name.to_row ++ space ∷ col in
     let from = decimal item.name.from_row ++ space ∷ to in
     sym (
-      append_assoc (decimal item.name.rule) (space ∷ from) amount
-      ∙ ap (λ s. decimal item.name.rule ++ space ∷ s) (
-        append_assoc (decimal item.name.from_row) (space ∷ to) amount
-        ∙ ap (λ s. decimal item.name.from_row ++ space ∷ s) (
-          append_assoc (decimal item.name.to_row) (space ∷ col) amount
-          ∙ ap (λ s. decimal item.name.to_row ++ space ∷ s) (append_assoc (decimal item.name.col) (space ∷ side) amount)
-        )
-      )
+    append_assoc (decimal item.name.rule) (space ∷ from) amount
+    ∙ ap (λ s. decimal item.name.rule ++ space ∷ s) (
+    append_assoc (decimal item.name.from_row) (space ∷ to) amount
+    ∙ ap (λ s. decimal item.name.from_row ++ space ∷ s) (
+    append_assoc (decimal item.name.to_row) (space ∷ col) amount
+    ∙ ap (λ s. decimal item.name.to_row ++ space ∷ s) (append_assoc (decimal item.name.col) (space ∷ side) amount)
+    )
+    )
     )

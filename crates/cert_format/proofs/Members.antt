@@ -105,7 +105,7 @@ set_more sets flow line are is none after = record {
     flow_rises = are.flow_rises;
   };
   lines = let P : List FlowItem → Type 0 = λ items. map Set (sets ++ line ∷ []) ++ map Flow items ≡ (map Set sets ++ map Flow items) ++ Set line ∷ [] in
-    subst P (sym none) (append-nil (map Set (sets ++ line ∷ [])) ∙ map-append Set sets (line ∷ []) ∙ ap (λ lines. lines ++ Set line ∷ []) (sym (append-nil (map Set sets))));
+      subst P (sym none) (append-nil (map Set (sets ++ line ∷ [])) ∙ map-append Set sets (line ∷ []) ∙ ap (λ lines. lines ++ Set line ∷ []) (sym (append-nil (map Set sets))));
 }
 
 item_more : (sets : List SetLine) (flow : List FlowItem) (item : FlowItem) → AreLists sets flow → IsItem item → follows item_key flow item ≡ true → AreMore sets flow (Flow item) (sets, flow ++ item ∷ [])

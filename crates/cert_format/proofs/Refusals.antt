@@ -83,9 +83,9 @@ read_on bytes draft rest line after later read is_line e is_next =
       read = record {
         is = on.is;
         text = read.text
-        ∙ ap (λ s. text_of (so_far draft) ++ s) (e ∙ sym (one_text line after))
-        ∙ sym (append_assoc (text_of (so_far draft)) (text_of (line ∷ [])) after)
-        ∙ ap (λ s. s ++ after) both;
+            ∙ ap (λ s. text_of (so_far draft) ++ s) (e ∙ sym (one_text line after))
+            ∙ sym (append_assoc (text_of (so_far draft)) (text_of (line ∷ [])) after)
+            ∙ ap (λ s. s ++ after) both;
       };
       count = ap length on.lines ∙ length-append (so_far draft) (line ∷ []);
     }
@@ -117,9 +117,9 @@ count_is draft = length-map (so_far draft) text_of_line
 before_is : (bytes : List ℕ) (draft : Draft) (rest : List ℕ) → IsReadTo bytes draft rest → BeginsWell (length (so_far draft)) bytes
 before_is bytes draft rest read =
     let found : first_lines (length (so_far draft)) bytes ≡ Some (text_of (so_far draft)) =
-      ap (first_lines (length (so_far draft))) read.text
-      ∙ ap (λ n. first_lines n (text_of (so_far draft) ++ rest)) (sym (count_is draft))
-      ∙ first_lines-text (map text_of_line (so_far draft)) rest (are_lines (so_far draft) (draft_within draft read.is))
+    ap (first_lines (length (so_far draft))) read.text
+    ∙ ap (λ n. first_lines n (text_of (so_far draft) ++ rest)) (sym (count_is draft))
+    ∙ first_lines-text (map text_of_line (so_far draft)) rest (are_lines (so_far draft) (draft_within draft read.is))
     in
     subst (λ front. IsSomeAnd front BeginsText) (sym found) (begins_so draft read.is)
 
@@ -139,14 +139,14 @@ no_text_without_feed draft rest cert [] is lacks (inr some) joined e = some (sym
 pub refused_without_feed : (bytes : List ℕ) (draft : Draft) (rest : List ℕ) → IsReadTo bytes draft rest → Lacks line_feed rest → (whole draft ≡ None) ⊎ (rest ≢ []) → IsRefusedAfter (length (so_far draft)) bytes
 refused_without_feed bytes draft rest read lacks unfinished =
     let none : first_lines (suc (length (so_far draft))) bytes ≡ None =
-      ap (first_lines (suc (length (so_far draft)))) read.text
-      ∙ ap (λ n. first_lines (suc n) (text_of (so_far draft) ++ rest)) (sym (count_is draft))
-      ∙ first_lines-too_many (map text_of_line (so_far draft)) rest (are_lines (so_far draft) (draft_within draft read.is)) lacks
+    ap (first_lines (suc (length (so_far draft)))) read.text
+    ∙ ap (λ n. first_lines (suc n) (text_of (so_far draft) ++ rest)) (sym (count_is draft))
+    ∙ first_lines-too_many (map text_of_line (so_far draft)) rest (are_lines (so_far draft) (draft_within draft read.is)) lacks
     in
     record {
       no_text = λ cert text.
-        let found = cert_rest bytes draft rest cert read text.has (sym text.text ∙ read.text) in
-        no_text_without_feed draft rest cert found.others read.is lacks unfinished found.joined found.text;
+          let found = cert_rest bytes draft rest cert read text.has (sym text.text ∙ read.text) in
+          no_text_without_feed draft rest cert found.others read.is lacks unfinished found.joined found.text;
       before = before_is bytes draft rest read;
       here = λ begins. subst (λ front. IsSomeAnd front BeginsText) none begins;
     }
@@ -171,7 +171,7 @@ front_not : (draft : Draft) (text : List ℕ) → IsDraft draft → Lacks line_f
 front_not draft text is lacks may_not begins =
     let (cert, has, more, e) = begins in
     let joined : text_of_cert cert ≡ text_of (so_far draft) ++ (text ++ line_feed ∷ more) =
-      e ∙ append_assoc (text_of (so_far draft)) (text ++ line_feed ∷ []) more ∙ ap (λ s. text_of (so_far draft) ++ s) (append_assoc text (line_feed ∷ []) more)
+    e ∙ append_assoc (text_of (so_far draft)) (text ++ line_feed ∷ []) more ∙ ap (λ s. text_of (so_far draft) ++ s) (append_assoc text (line_feed ∷ []) more)
     in
     let within = cert_within cert has in
     let found = rest_of (lines_of_cert cert) (so_far draft) (text ++ line_feed ∷ more) within (draft_within draft is) joined in
@@ -182,12 +182,12 @@ pub refused_line : (bytes : List ℕ) (draft : Draft) (text after : List ℕ) �
 refused_line bytes draft text after read lacks may_not =
     let front = text_of (so_far draft) ++ (text ++ line_feed ∷ []) in
     let found : first_lines (suc (length (so_far draft))) bytes ≡ Some front =
-      ap (first_lines (suc (length (so_far draft)))) read.text
-      ∙ ap (λ n. first_lines (suc n) (text_of (so_far draft) ++ (text ++ line_feed ∷ after))) (sym (count_is draft))
-      ∙ first_lines-one_more (map text_of_line (so_far draft)) text after (are_lines (so_far draft) (draft_within draft read.is)) lacks
+    ap (first_lines (suc (length (so_far draft)))) read.text
+    ∙ ap (λ n. first_lines (suc n) (text_of (so_far draft) ++ (text ++ line_feed ∷ after))) (sym (count_is draft))
+    ∙ first_lines-one_more (map text_of_line (so_far draft)) text after (are_lines (so_far draft) (draft_within draft read.is)) lacks
     in
     let parts : bytes ≡ front ++ after =
-      read.text ∙ ap (λ s. text_of (so_far draft) ++ s) (sym (append_assoc text (line_feed ∷ []) after)) ∙ sym (append_assoc (text_of (so_far draft)) (text ++ line_feed ∷ []) after)
+    read.text ∙ ap (λ s. text_of (so_far draft) ++ s) (sym (append_assoc text (line_feed ∷ []) after)) ∙ sym (append_assoc (text_of (so_far draft)) (text ++ line_feed ∷ []) after)
     in
     record {
       no_text = λ cert text_is. front_not draft text read.is lacks may_not (cert, text_is.has, after, sym text_is.text ∙ parts);

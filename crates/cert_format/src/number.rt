@@ -7,6 +7,12 @@ ghost use Rattle.cert_format.specs.Line.{IsTotal, IsValue, IsAmount};
 
 use crate::limits::{MOST_AMOUNT, TOTAL_DIGITS, VALUE_DIGITS};
 
+/// The most digits of a number of 32 bits.
+const INDEX_DIGITS: usize = 10;
+
+/// The digits of the greatest amount.
+const AMOUNT_DIGITS: usize = 16;
+
 /// The bytes before the first such byte, and those after it.
 pub(crate) fn split_at(bytes: &[u8], byte: u8) -> Option<(&[u8], &[u8])>
     ensures found { IfSome result (λ parts. (bytes.now ≡ parts.0.now ++ byte ∷ parts.1.now) × Lacks byte parts.0.now) }
@@ -56,7 +62,7 @@ pub(crate) fn number_then(bytes: &[u8], least: u32, most: u32) -> Option<(u32, &
         IsSomeAnd result (λ field. (field.0 ≡ number) × (field.1.now ≡ rest)) }
 {
     let (word, rest) = split_at(bytes, b' ')?;
-    let number = number_of(word, 10)?;
+    let number = number_of(word, INDEX_DIGITS)?;
     if number < u128::from(least) || u128::from(most) < number {
         return None;
     }
@@ -77,7 +83,7 @@ pub(crate) fn amount_of(word: &[u8]) -> Option<i64>
     ensures found { IfSome result (λ amount. IsAmount amount × (word.now ≡ signed_decimal amount)) }
     ensures only { (amount : ℤ) → IsAmount amount → word.now ≡ signed_decimal amount → IsSomeAnd result (λ found. found ≡ amount) }
 {
-    let number = number_of(word, 16)?;
+    let number = number_of(word, AMOUNT_DIGITS)?;
     if number == 0 || (MOST_AMOUNT as u128) < number {
         return None;
     }

@@ -16,7 +16,7 @@ returns-then-is_empty-clause-only c = λ number below e.
       | then-is_empty-via-else-is_empty+then-word-most_digits w ↦ omega (arith, long, length-decimal-le_wide c.args.most_digits number c.requires.some below small)
       | then-is_empty-via-else-is_empty+else-word-most_digits+then-word-eq48 w ↦ elim w.if-word-gt1.branch as (λ _. ⊥) [
         | then-word-gt1 w' ↦ let first : get_or c.args.word.now 0 0 ≡ 48 = eqb-true (get_or c.args.word.now 0 0) 48 (cc) in
-          no_leading_zero number small (omega (arith, long)) (sym (ap (λ s. get_or s 0 0) e) ∙ first)
+            no_leading_zero number small (omega (arith, long)) (sym (ap (λ s. get_or s 0 0) e) ∙ first)
         | else-word-gt1 w' ↦ both_ways w.if-word-gt1.value (w'.value-is ∙ le-ltb 1 (length c.args.word.now) w'.if-word-gt1.false) w.if-word-eq48.true
       ]
     ]

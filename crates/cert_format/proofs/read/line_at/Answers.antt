@@ -9,5 +9,5 @@ if_none P (Some x) p = tt
 pub returns-in_err-line_of-clause-none : goal.returns-in_err-line_of-clause-none
 returns-in_err-line_of-clause-none c =
     if_none _ _ (
-      no_line c.in_ok-line.line.now c.in_ok-line.rest.now c.in_ok-line.ensures.found.0 c.in_ok-line.ensures.found.1 (λ line is e. absurd (c.in_err-line_of.ensures.only line is e))
+    no_line c.in_ok-line.line.now c.in_ok-line.rest.now c.in_ok-line.ensures.found.0 c.in_ok-line.ensures.found.1 (λ line is e. absurd (c.in_err-line_of.ensures.only line is e))
     )

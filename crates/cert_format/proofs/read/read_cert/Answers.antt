@@ -20,7 +20,7 @@ pub returns-in_default-2-clause-only : goal.returns-in_default-2-clause-only
 returns-in_default-2-clause-only c =
     let none : next c.loop-line.draft c.in-Some.line ≡ None = sym c.in_ok-more.ensures ∙ c.in_default-2.is in
     let reads : Reads c.args.bytes.now (Err (Syntax c.loop-line.number)) = refuses c.args.bytes.now (length (so_far c.loop-line.draft)) c.loop-line.number c.loop-line.invariant.1
-      (refused_next c.args.bytes.now c.loop-line.draft c.loop-line.rest.now c.in-Some.line c.in-Some.after.now c.loop-line.invariant.0 c.in-Some.ensures.found none)
+    (refused_next c.args.bytes.now c.loop-line.draft c.loop-line.rest.now c.in-Some.line c.in-Some.after.now c.loop-line.invariant.0 c.in-Some.ensures.found none)
     in
     λ answer other _. c.one_answer.ensures c.args.bytes.now (Err (Syntax c.loop-line.number)) answer reads other
 
@@ -43,7 +43,7 @@ pub returns-then-not-is_empty-clause-only : goal.returns-then-not-is_empty-claus
 returns-then-not-is_empty-clause-only c =
     let some : c.loop-line.rest.now ≢ [] = λ e. both_ways c.is_empty.result c.if-not-is_empty.true (c.is_empty.ensures ∙ eq-eqb (length c.loop-line.rest.now) 0 (ap length e)) in
     let reads : Reads c.args.bytes.now (Err (Syntax c.loop-line.number)) = refuses c.args.bytes.now (length (so_far c.loop-line.draft)) c.loop-line.number c.loop-line.invariant.1
-      (refused_at c.args.bytes.now c.loop-line.draft c.loop-line.rest.now c.loop-line.invariant.0 c.in_default.ensures.none (inr some))
+    (refused_at c.args.bytes.now c.loop-line.draft c.loop-line.rest.now c.loop-line.invariant.0 c.in_default.ensures.none (inr some))
     in
     λ answer other _. c.one_answer.ensures c.args.bytes.now (Err (Syntax c.loop-line.number)) answer reads other
 

@@ -17,11 +17,11 @@ returns c =
     let paid_pushed = subst PaidPushed (to_z-of_z w128 c.args.paid c.ranges.paid) c.in_ok-push_whole-4.ensures in
     on_ok c.push_lists.result
     (λ e.
-      pushed_line (text_of_line (Header Two)) c.args.text.now.items c.push_whole.new.text.items after _ c.in_ok-push_whole.ensures (
-        pushed_line (text_of_line ClaimRepair) c.push_whole.new.text.items c.push_whole-2.new.text.items after _ c.in_ok-push_whole-2.ensures (
-          pushed_line (text_of_line (Total c.args.total)) c.push_whole-2.new.text.items c.push_whole-3.new.text.items after _ total_pushed (
-            pushed_line (text_of_line (Paid c.args.paid)) c.push_whole-3.new.text.items c.push_whole-4.new.text.items after _ paid_pushed e
-          )
-        )
-      ))
+    pushed_line (text_of_line (Header Two)) c.args.text.now.items c.push_whole.new.text.items after _ c.in_ok-push_whole.ensures (
+    pushed_line (text_of_line ClaimRepair) c.push_whole.new.text.items c.push_whole-2.new.text.items after _ c.in_ok-push_whole-2.ensures (
+    pushed_line (text_of_line (Total c.args.total)) c.push_whole-2.new.text.items c.push_whole-3.new.text.items after _ total_pushed (
+    pushed_line (text_of_line (Paid c.args.paid)) c.push_whole-3.new.text.items c.push_whole-4.new.text.items after _ paid_pushed e
+    )
+    )
+    ))
     c.push_lists.ensures

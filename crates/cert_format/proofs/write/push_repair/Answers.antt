@@ -15,9 +15,9 @@ returns c =
     let total_pushed = subst TotalPushed (to_z-of_z w128 c.args.total c.ranges.total) c.in_ok-push_whole-3.ensures in
     on_ok c.push_lists.result
     (λ e.
-      pushed_line (text_of_line (Header One)) c.args.text.now.items c.push_whole.new.text.items after _ c.in_ok-push_whole.ensures (
-        pushed_line (text_of_line ClaimRepair) c.push_whole.new.text.items c.push_whole-2.new.text.items after _ c.in_ok-push_whole-2.ensures (
-          pushed_line (text_of_line (Total c.args.total)) c.push_whole-2.new.text.items c.push_whole-3.new.text.items after _ total_pushed e
-        )
-      ))
+    pushed_line (text_of_line (Header One)) c.args.text.now.items c.push_whole.new.text.items after _ c.in_ok-push_whole.ensures (
+    pushed_line (text_of_line ClaimRepair) c.push_whole.new.text.items c.push_whole-2.new.text.items after _ c.in_ok-push_whole-2.ensures (
+    pushed_line (text_of_line (Total c.args.total)) c.push_whole-2.new.text.items c.push_whole-3.new.text.items after _ total_pushed e
+    )
+    ))
     c.push_lists.ensures
