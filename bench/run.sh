@@ -1,12 +1,13 @@
 #!/usr/bin/env bash
 # Runs a proved function and its plain twin in turn on the same inputs, and prints the best time of each for
-# one item and the ratio of the proved time to the plain one. For the blocked chain it also prints the ratio of its
-# proved time to that of the chain that settles.
+# one item and the ratio of the proved time to the plain one. `records` runs texts of three forms, each fed byte by
+# byte and by slices. For the blocked chain it also prints the ratio of its proved time to that of the chain that
+# settles.
 #
-# usage: bench/run.sh units|records|settle|blocked [ROUNDS]
+# usage: bench/run.sh units|text_of|ticks|records|settle|blocked [ROUNDS]
 set -euo pipefail
 cd "$(dirname "$0")/.."
-what=${1:?usage: bench/run.sh units|records|settle|blocked [ROUNDS]}
+what=${1:?usage: bench/run.sh units|text_of|ticks|records|settle|blocked [ROUNDS]}
 rounds=${2:-5}
 
 # The blocked chain is settled by the same twin as the other one.
@@ -20,18 +21,35 @@ rm -f "$proved"
 (cd crates/measure && rt run) > bench/out/build.log 2>&1 || true
 test -x "$proved" || { tail -n 20 bench/out/build.log; exit 1; }
 
-best_plain= best_proved= best_open=
-for _ in $(seq "$rounds"); do
-    read -r plain_time plain_sum < <("bench/out/$twin" "$what")
-    read -r proved_time proved_sum < <("$proved" "$what")
-    [ "$plain_sum" = "$proved_sum" ] || { echo "the answers differ: $plain_sum and $proved_sum"; exit 1; }
-    [ -n "$best_plain" ] && [ "$best_plain" -le "$plain_time" ] || best_plain=$plain_time
-    [ -n "$best_proved" ] && [ "$best_proved" -le "$proved_time" ] || best_proved=$proved_time
-    [ "$what" = blocked ] || continue
-    read -r open_time _ < <("$proved" settle)
-    [ -n "$best_open" ] && [ "$best_open" -le "$open_time" ] || best_open=$open_time
-done
-awk -v what="$what" -v plain="$best_plain" -v proved="$best_proved" \
-    'BEGIN { printf "%s: plain %.1f ns, proved %.1f ns, ratio %.2f\n", what, plain / 1000, proved / 1000, proved / plain }'
-[ "$what" != blocked ] || awk -v blocked="$best_proved" -v settled="$best_open" \
-    'BEGIN { printf "blocked to settle: ratio %.2f\n", blocked / settled }'
+# compare NAME: both sides in turn, and the best time of each.
+compare() {
+    local name=$1 plain_time plain_sum proved_time proved_sum best_plain= best_proved=
+    for _ in $(seq "$rounds"); do
+        read -r plain_time plain_sum < <("bench/out/$twin" "$name")
+        read -r proved_time proved_sum < <("$proved" "$name")
+        [ "$plain_sum" = "$proved_sum" ] || { echo "the answers differ: $plain_sum and $proved_sum"; exit 1; }
+        [ -n "$best_plain" ] && [ "$best_plain" -le "$plain_time" ] || best_plain=$plain_time
+        [ -n "$best_proved" ] && [ "$best_proved" -le "$proved_time" ] || best_proved=$proved_time
+    done
+    awk -v name="$name" -v plain="$best_plain" -v proved="$best_proved" \
+        'BEGIN { printf "%s: plain %.1f ns, proved %.1f ns, ratio %.2f\n", name, plain / 1000, proved / 1000, proved / plain }'
+    last=$best_proved
+}
+
+case $what in
+records)
+    for name in records slices records-quoted slices-quoted records-crlf slices-crlf; do
+        compare "$name"
+    done ;;
+blocked)
+    compare blocked
+    best_open=
+    for _ in $(seq "$rounds"); do
+        read -r open_time _ < <("$proved" settle)
+        [ -n "$best_open" ] && [ "$best_open" -le "$open_time" ] || best_open=$open_time
+    done
+    awk -v blocked="$last" -v settled="$best_open" \
+        'BEGIN { printf "blocked to settle: ratio %.2f\n", blocked / settled }' ;;
+*)
+    compare "$what" ;;
+esac

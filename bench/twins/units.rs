@@ -1,5 +1,5 @@
 //! The plain twin of `fix_point::units`: the same grammar and the same answers, with no proof.
-//! It makes ten million short decimal texts, reads each with two decimals, and prints the picoseconds for
+//! It makes ten million short decimal texts of two decimals or fewer, reads each with two decimals, and prints the picoseconds for
 //! each text and the sum of the values.
 
 use std::time::Instant;
@@ -121,7 +121,7 @@ fn units(text: &[u8], d: u32, extra: Extra) -> Result<i64, NumFault> {
     scaled(text, d, extra, 1_000_000_000_000_000)
 }
 
-/// Texts such as `-123.45`, one after the other, and where each ends.
+/// Texts such as `-123.45`, `123.4` and `123`, one after the other, and where each ends.
 fn texts() -> (Vec<u8>, Vec<usize>) {
     let mut bytes = Vec::with_capacity(TEXTS * 8);
     let mut ends = Vec::with_capacity(TEXTS);
@@ -143,6 +143,8 @@ fn texts() -> (Vec<u8>, Vec<usize>) {
         bytes.push(b'.');
         bytes.push(b'0' + (number / 10 % 10) as u8);
         bytes.push(b'0' + (number % 10) as u8);
+        // A half of the texts have fewer decimals.
+        bytes.truncate(bytes.len() - [3, 1, 0, 0][(state >> 28 & 3) as usize]);
         ends.push(bytes.len());
     }
     (bytes, ends)

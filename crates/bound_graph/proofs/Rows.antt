@@ -92,7 +92,7 @@ pub reached_more : (places : List Place) (i : ℕ) (new : List ℕ) → IsRising
     → (k : ℕ) → i + 1 ≤ k → k < length places → length new ≤ row_at places k + 1
 reached_more places i new rising size k h lt = let up = rising.rows i k (omega arith) lt in omega arith
 
--- all places are seen: the row behind the last one starts where they end
+-- all places are seen: the row after the last one starts where they end
 pub table_whole : (places : List Place) (starts : List ℕ) → IsRowTable places (length places) 0 starts → IsRowTable places (length places) 1 (starts ++ length places ∷ [])
 table_whole places starts table =
     let size = length_push starts (length places) in

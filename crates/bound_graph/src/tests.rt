@@ -1,4 +1,5 @@
-ghost use Rattle.std.specs.Prelude.{◌≡◌, ◌≢◌, ◌<◌, ◌≤◌, ◌*◌, ◌^◌, length, unsigned_abs, IfOk};
+//! Arcs of bounds however places are found, graphs of few and of many arcs, and the laws.
+ghost use Rattle.std.specs.Prelude.{◌≡◌, ◌≢◌, ◌<◌, ◌≤◌, ◌*◌, ◌^◌, length, unsigned_abs, IfOk, true};
 ghost use Rattle.std.specs.List.{AllByRecursion};
 ghost use Rattle.words.specs.Lists.{Distinct};
 ghost use Rattle.screen_model.specs.Obeys.{HasEnds};
@@ -108,6 +109,89 @@ fn arcs_do_not_depend_on_how_places_are_found(rt: HostRuntime) -> Result<(), Fai
     assert_eq!(rt; falling.as_slice(), arcs.as_slice());
     let far = arcs_between(rt.alloc(), 7, 4_000_000_000)?;
     assert_eq!(rt; far.as_slice(), arcs.as_slice());
+    Ok(())
+}
+
+/// Whether the place stands nowhere among these.
+fn is_new(places: &[Place], place: Place) -> bool
+    ensures { result ≡ true → AllByRecursion (λ other. place ≢ other) places.now }
+{
+    for other in places {
+        if *other == place {
+            return false;
+        }
+    }
+    true
+}
+
+/// Adds a place at the end, if it is new.
+fn push_new(places: &mut Places, place: Place) -> Result<(), AllocError>
+    requires { Distinct places.old }
+    ensures { Distinct places.new }
+{
+    if is_new(places.as_slice(), place) {
+        places.push(place)?;
+    }
+    Ok(())
+}
+
+/// The places with these rows and columns.
+fn places_of(alloc: Global, cells: &[(u32, u32)]) -> Result<Places, AllocError>
+    ensures { IfOk result Distinct }
+{
+    let mut places = Places::new(alloc);
+    for cell in cells {
+        push_new(
+            &mut places,
+            Place {
+                row: cell.0,
+                col: cell.1,
+            },
+        )?;
+    }
+    Ok(places)
+}
+
+/// The range of each reading: a bound from Zero to it, and one back.
+fn ranges(alloc: Global, places: &[Place]) -> Result<BoundList, AllocError>
+    ensures ends { IfOk result (AllByRecursion (HasEnds places.now)) }
+{
+    let mut bounds = BoundList::new(alloc);
+    for place in places {
+        bounds.push(range_bound(Side::Up, End::Zero, End::At(*place)))?;
+        bounds.push(range_bound(Side::Down, End::At(*place), End::Zero))?;
+    }
+    Ok(bounds)
+}
+
+#[test]
+fn each_place_has_its_node_wherever_it_stands(rt: HostRuntime) -> Result<(), Fail> {
+    let none: &[(u32, u32)] = &[];
+    let several_in_a_row: &[(u32, u32)] = &[(0, 1), (0, 3), (2, 1), (2, 2), (2, 256), (3, 2)];
+    let falling_rows: &[(u32, u32)] = &[(3, 2), (2, 7), (2, 1), (0, 3)];
+    let falling_columns: &[(u32, u32)] = &[(1, 3), (1, 2), (4, 2)];
+    let far_apart: &[(u32, u32)] = &[(5, 1), (5, 2), (4_294_967_295, 1)];
+    for cells in [
+        none,
+        several_in_a_row,
+        falling_rows,
+        falling_columns,
+        far_apart,
+    ] {
+        let places = places_of(rt.alloc(), cells)?;
+        assert_eq!(rt; places.len(), cells.len());
+        let bounds = ranges(rt.alloc(), places.as_slice())?;
+        assert!(rt; places.len() < 100 && bounds.len() < 100);
+        let arcs = arcs_of_bounds(rt.alloc(), &places, &bounds, 7)?.into_vec();
+        assert_eq!(rt; arcs.len(), 2 * cells.len());
+        assert!(rt; arcs.capacity() >= 2 * cells.len() + 7);
+        for (i, arc) in arcs.iter().enumerate() {
+            let node = i as u32 / 2 + 1;
+            let ends = if i % 2 == 0 { (0, node) } else { (node, 0) };
+            assert_eq!(rt; (arc.tail, arc.head), ends, "arc {i}");
+            assert_eq!(rt; arc.cost, RANGE);
+        }
+    }
     Ok(())
 }
 

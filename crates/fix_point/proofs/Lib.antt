@@ -1,6 +1,7 @@
 pub mod Numbers
 pub mod Only
 pub mod Pieces
+pub mod RateLimits
 pub mod Rates
 pub mod Reading
 pub mod Run

@@ -2,6 +2,7 @@
 use Rattle.std.specs.Prelude.{◌≡◌, ℕ, ◌≤◌, Bool, ◌||◌, ◌==◌, IsTrue, List, [], ◌∷◌, ◌++◌, length}
 use Rattle.std.specs.Char.{is_ascii_digit}
 use Rattle.std.specs.List.{list_all}
+use Rattle.fix_point.specs.declared.number.TheConstants.{MOST_BYTES, MOST_DIGITS, MOST_EXPONENT_DIGITS}
 
 -- a space or a tab
 abbrev pub is_blank : ℕ → Bool
@@ -58,15 +59,15 @@ mantissa_digits parts = parts.whole ++ fraction_digits parts.fraction
 abbrev pub IsExponent : Exponent → Type 0
 IsExponent no_exponent = Unit {0}
 IsExponent (exponent letter sign digits) =
-    IsTrue ((letter == 101) || (letter == 69)) × IsTrue (list_all is_ascii_digit digits) × (1 ≤ length digits) × (length digits ≤ 3)
+    IsTrue ((letter == 101) || (letter == 69)) × IsTrue (list_all is_ascii_digit digits) × (1 ≤ length digits) × (length digits ≤ MOST_EXPONENT_DIGITS)
 
 -- The text is a number text of these parts.
 pub record IsNumberText (text : List ℕ) (parts : Parts) : Type 0 where
   pub spelled : text ≡ text_of_parts parts
-  pub short : length text ≤ 64
+  pub short : length text ≤ MOST_BYTES
   pub before : IsTrue (list_all is_blank parts.before)
   pub after : IsTrue (list_all is_blank parts.after)
   pub digits : IsTrue (list_all is_ascii_digit (mantissa_digits parts))
   pub some : 1 ≤ length (mantissa_digits parts)
-  pub few : length (mantissa_digits parts) ≤ 30
+  pub few : length (mantissa_digits parts) ≤ MOST_DIGITS
   pub power : IsExponent parts.power

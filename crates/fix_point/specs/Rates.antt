@@ -1,6 +1,25 @@
 -- To be believed: whole steps at a rate.
-use Rattle.std.specs.Prelude.{ℕ, ◌*◌, ◌^◌, ℤ, pos, ◌*ℤ◌, ◌≤ℤ◌}
+use Rattle.std.specs.Prelude.{ℕ, ◌*◌, ◌^◌, ◌≤◌, ℤ, pos, neg_ℤ, ◌*ℤ◌, ◌≤ℤ◌, unsigned_abs}
 use Rattle.fix_point.specs.declared.rate.Rate.{Rate}
+
+-- at most 10^15 millionths, in each 1 to 10^7 seconds
+pub record IsRate (rate : Rate) : Type 0 where
+  pub size : unsigned_abs rate.millionths ≤ 10 ^ 15
+  pub per_least : 1 ≤ rate.per
+  pub per_most : rate.per ≤ 10 ^ 7
+
+-- in so many ticks the rate allows at most 4·10^15 units of 10^-d
+abbrev pub IsInReach : ℕ → Rate → ℤ → Type 0
+IsInReach d rate ticks = unsigned_abs rate.millionths * 10 ^ d * unsigned_abs ticks ≤ 4 * 10 ^ 30 * rate.per
+
+-- The rate, the decimals and the ticks are within their limits, and the rate reaches no further in those ticks
+-- than it may.
+pub record IsWithinReach (rate : Rate) (d : ℕ) (dt : ℤ) : Type 0 where
+  pub limited : IsRate rate
+  pub decimals : d ≤ 6
+  pub ticks_least : pos 1 ≤ℤ dt
+  pub ticks_most : dt ≤ℤ pos (10 ^ 17)
+  pub reach : IsInReach d rate dt
 
 -- In dt ticks a change of so many units is within the rate, which allows its millionths of a whole in each
 -- `per` seconds; a unit is 10^-d, and a second has 10^9 ticks.
@@ -19,3 +38,7 @@ pub record IsFloor (rate : Rate) (d : ℕ) (dt : ℤ) (step : ℤ) : Type 0 wher
 pub record IsCeil (rate : Rate) (d : ℕ) (dt : ℤ) (step : ℤ) : Type 0 where
   pub within : IsAtLeast rate d dt step
   pub least : (other : ℤ) → IsAtLeast rate d dt other → step ≤ℤ other
+
+-- the rate of the opposite change
+abbrev pub opposite : Rate → Rate
+opposite rate = record { millionths = neg_ℤ rate.millionths; per = rate.per }

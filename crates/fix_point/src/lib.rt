@@ -6,10 +6,16 @@ mod number;
 mod rate;
 mod scale;
 mod size;
+mod steps;
 #[cfg(test)]
 mod tests;
 mod text;
 
-pub use rate::{Rate, ceil_rate, floor_rate, steps_add_up};
+pub use number::{MOST_BYTES, MOST_DIGITS, MOST_EXPONENT_DIGITS};
+pub use rate::{
+    Rate, ceil_rate, floor_rate, least_is_greatest_turned, one_step, reach_of_fewer_ticks,
+    steps_add_up,
+};
 pub use scale::{Extra, MOST_UNITS, NumFault, an_answer, one_answer, one_value, scaled, units};
-pub use text::{text_of, texts_are_read_back};
+pub use steps::{Step, Steps};
+pub use text::{push_text_of, text_of, texts_are_read_back};

@@ -6,13 +6,13 @@ ghost use Rattle.fix_point.specs.Grammar.{is_blank, no_exponent, IsExponent, IsN
 ghost use Rattle.fix_point.specs.PartsOf.{front, after_front, sign_of, after_sign, is_minus, fraction_of, after_fraction, is_letter, exponent_of, after_exponent, parts_of, AreTensOf, IsNumberOf};
 
 /// The most bytes of a number text.
-const MOST_BYTES: usize = 64;
+pub const MOST_BYTES: usize = 64;
 
 /// The most digits of a mantissa.
-const MOST_DIGITS: usize = 30;
+pub const MOST_DIGITS: usize = 30;
 
 /// The most digits of an exponent.
-const MOST_EXPONENT_DIGITS: usize = 3;
+pub const MOST_EXPONENT_DIGITS: usize = 3;
 
 /// 10^29: a number from here on has all digits of a mantissa that there can be.
 const FULL: u128 = 100_000_000_000_000_000_000_000_000_000;

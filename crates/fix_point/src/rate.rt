@@ -1,7 +1,7 @@
 //! Rates of change, and the whole steps that they allow.
-ghost use Rattle.std.specs.Prelude.{◌≡◌, ℕ, ◌*◌, ◌^◌, ◌≤◌, ℤ, pos, ◌+ℤ◌, ◌*ℤ◌, ◌≤ℤ◌, unsigned_abs};
+ghost use Rattle.std.specs.Prelude.{◌≡◌, ◌↔◌, ℕ, ◌*◌, ◌^◌, ◌≤◌, ℤ, pos, neg_ℤ, ◌+ℤ◌, ◌*ℤ◌, ◌≤ℤ◌, unsigned_abs};
 ghost use Rattle.fix_point.specs.declared.rate.Rate.{Rate};
-ghost use Rattle.fix_point.specs.Rates.{IsFloor, IsCeil};
+ghost use Rattle.fix_point.specs.Rates.{IsFloor, IsCeil, IsWithinReach, opposite};
 
 /// A rate of change: millionths of a whole in each `per` seconds.
 #[derive(Clone, Copy, Debug, PartialEq, Eq)]
@@ -17,14 +17,9 @@ const PARTS: i128 = 1_000_000_000_000_000;
 
 /// The greatest whole step of units of 10^-d in dt ticks of 10^-9 seconds that is at most the rate.
 pub fn floor_rate(rate: Rate, d: u32, dt: i64) -> i64
-    requires millionths { unsigned_abs rate.millionths ≤ 10 ^ 15 }
-    requires per { 1 ≤ rate.per }
-    requires per_most { rate.per ≤ 10 ^ 7 }
-    requires decimals { d ≤ 6 }
-    requires ticks { pos 1 ≤ℤ dt }
-    requires ticks_most { dt ≤ℤ pos (10 ^ 17) }
-    requires fits { unsigned_abs rate.millionths * 10 ^ d * unsigned_abs dt ≤ 4 * 10 ^ 30 * rate.per }
-    ensures { IsFloor rate d dt result }
+    requires { IsWithinReach rate d dt }
+    ensures floor { IsFloor rate d dt result }
+    ensures small { unsigned_abs result ≤ 4 * 10 ^ 15 }
 {
     let change = change_of(rate.millionths, d, dt);
     change.div_euclid(i128::from(rate.per) * PARTS) as i64
@@ -32,14 +27,9 @@ pub fn floor_rate(rate: Rate, d: u32, dt: i64) -> i64
 
 /// The least whole step of units of 10^-d in dt ticks of 10^-9 seconds that is at least the rate.
 pub fn ceil_rate(rate: Rate, d: u32, dt: i64) -> i64
-    requires millionths { unsigned_abs rate.millionths ≤ 10 ^ 15 }
-    requires per { 1 ≤ rate.per }
-    requires per_most { rate.per ≤ 10 ^ 7 }
-    requires decimals { d ≤ 6 }
-    requires ticks { pos 1 ≤ℤ dt }
-    requires ticks_most { dt ≤ℤ pos (10 ^ 17) }
-    requires fits { unsigned_abs rate.millionths * 10 ^ d * unsigned_abs dt ≤ 4 * 10 ^ 30 * rate.per }
-    ensures { IsCeil rate d dt result }
+    requires { IsWithinReach rate d dt }
+    ensures ceil { IsCeil rate d dt result }
+    ensures small { unsigned_abs result ≤ 4 * 10 ^ 15 }
 {
     let opposite = Rate {
         millionths: -rate.millionths,
@@ -58,8 +48,25 @@ fn change_of(millionths: i64, d: u32, dt: i64) -> i128
     i128::from(millionths) * 10i128.pow(d) * i128::from(dt)
 }
 
-/// A step within a rate for some ticks and one for some more ticks are together within the rate for all
-/// those ticks.
+/// A rate that reaches no further than it may in some ticks does so in any fewer ticks too.
+pub fn reach_of_fewer_ticks()
+    ensures { (rate : Rate) (d : ℕ) (window dt : ℤ) → IsWithinReach rate d window → pos 1 ≤ℤ dt → dt ≤ℤ window → IsWithinReach rate d dt }
+{}
+
+/// A rate has one greatest whole step only, and one least.
+pub fn one_step()
+    ensures floor { (rate : Rate) (d : ℕ) (dt one other : ℤ) → IsFloor rate d dt one → IsFloor rate d dt other → one ≡ other }
+    ensures ceil { (rate : Rate) (d : ℕ) (dt one other : ℤ) → IsCeil rate d dt one → IsCeil rate d dt other → one ≡ other }
+{}
+
+/// The least step of a rate is the greatest step of the opposite rate, turned.
+pub fn least_is_greatest_turned()
+    ensures { (rate : Rate) (d : ℕ) (dt step : ℤ) → IsCeil rate d dt (neg_ℤ step) ↔ IsFloor (opposite rate) d dt step }
+{}
+
+/// The greatest steps of a rate for some ticks and for some more ticks are together at most the greatest step
+/// for all those ticks, and the least steps are together at least the least step for them all.
 pub fn steps_add_up()
-    ensures { (rate : Rate) (d : ℕ) (p q a b c : ℤ) → IsFloor rate d p a → IsFloor rate d q b → IsFloor rate d (p +ℤ q) c → (a +ℤ b) ≤ℤ c }
+    ensures floors { (rate : Rate) (d : ℕ) (p q a b c : ℤ) → IsFloor rate d p a → IsFloor rate d q b → IsFloor rate d (p +ℤ q) c → (a +ℤ b) ≤ℤ c }
+    ensures ceils { (rate : Rate) (d : ℕ) (p q a b c : ℤ) → IsCeil rate d p a → IsCeil rate d q b → IsCeil rate d (p +ℤ q) c → c ≤ℤ (a +ℤ b) }
 {}

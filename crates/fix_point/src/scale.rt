@@ -1,5 +1,5 @@
 //! Decimal texts as whole numbers of a unit.
-ghost use Rattle.std.specs.Prelude.{◌≡◌, ◌*◌, ◌^◌, ◌<◌, ◌≤◌, ℕ, ℤ, pos, ◌≤ℤ◌, List, Result, IfOk, IfErr};
+ghost use Rattle.std.specs.Prelude.{◌≡◌, ◌*◌, ◌^◌, ◌<◌, ◌≤◌, ℕ, ℤ, pos, ◌≤ℤ◌, List, Result, IfOk, IfErr, unsigned_abs};
 ghost use Rattle.fix_point.specs.Grammar.{Parts, IsNumberText};
 ghost use Rattle.fix_point.specs.Scaled.{Reads, Spells, Refuses};
 ghost use Rattle.fix_point.specs.PartsOf.{signed_by};
@@ -51,6 +51,7 @@ pub fn scaled(text: &[u8], d: u32, extra: Extra, most: i64) -> Result<i64, NumFa
     requires greatest { most ≤ℤ pos (9 * 10 ^ 18) }
     ensures accepted { IfOk result (Spells text.now d extra most) }
     ensures refused { IfErr result (Refuses text.now d extra most) }
+    ensures small { IfOk result (λ value. unsigned_abs value ≤ unsigned_abs most) }
     ensures only { (answer : Result ℤ NumFault) → Reads text.now d extra most answer → result ≡ answer }
 {
     // The law of `only`; it does nothing.
@@ -86,6 +87,7 @@ pub fn units(text: &[u8], d: u32, extra: Extra) -> Result<i64, NumFault>
     requires { d ≤ 9 }
     ensures accepted { IfOk result (Spells text.now d extra MOST_UNITS) }
     ensures refused { IfErr result (Refuses text.now d extra MOST_UNITS) }
+    ensures small { IfOk result (λ value. unsigned_abs value ≤ unsigned_abs MOST_UNITS) }
     ensures only { (answer : Result ℤ NumFault) → Reads text.now d extra MOST_UNITS answer → result ≡ answer }
 {
     scaled(text, d, extra, MOST_UNITS)

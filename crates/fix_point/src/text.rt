@@ -1,9 +1,10 @@
 //! Whole numbers of a unit as decimal texts.
-ghost use Rattle.std.specs.Prelude.{◌≡◌, ℕ, ℤ, ◌++◌, ◌^◌, ◌<◌, ◌≤◌, IfOk, OnOk, decimal, unsigned_abs};
+ghost use Rattle.std.specs.Prelude.{◌≡◌, ℕ, ℤ, ◌/◌, ◌%◌, ◌++◌, ◌^◌, ◌<◌, ◌≤◌, IfOk, OnOk, decimal, unsigned_abs};
 ghost use Rattle.fix_point.specs.declared.scale.Extra.{Extra};
 ghost use Rattle.fix_point.specs.Scaled.{Spells};
-ghost use Rattle.fix_point.specs.Text.{decimals_text, places, minus_text, text_of_value};
+ghost use Rattle.fix_point.specs.Text.{decimals_text, places, text_of_value};
 
+use itoa::Buffer;
 use std::alloc::{AllocError, Global};
 
 /// The text of a whole number of units of 10^-d: a minus where it is below 0, the whole part, and where
@@ -13,16 +14,44 @@ pub fn text_of(alloc: Global, v: i128, d: u32) -> Result<Vec<u8>, AllocError>
     requires decimals { d ≤ 6 }
     ensures { IfOk result (λ text. text.items ≡ text_of_value v d) }
 {
-    let size = v.unsigned_abs();
-    let power = 10u128.pow(d);
     let mut text = Vec::new(alloc);
+    push_text_of(&mut text, v, d)?;
+    Ok(text)
+}
+
+/// Adds this text to the end of another one. It takes no memory but what that one needs to grow. After an
+/// error a part of the text may have been added.
+pub fn push_text_of(text: &mut Vec<u8>, v: i128, d: u32) -> Result<(), AllocError>
+    requires size { unsigned_abs v ≤ 10 ^ 30 }
+    requires decimals { d ≤ 6 }
+    ensures { OnOk result (text.new.items ≡ text.old.items ++ text_of_value v d) }
+{
     if v < 0 {
         text.push(b'-')?;
     }
-    let whole = format!(in alloc; "{}", size / power)?;
-    text.extend_from_slice(whole.as_bytes())?;
-    push_decimals(&mut text, (size % power) as u32, d)?;
-    Ok(text)
+    let left = push_whole(text, v.unsigned_abs(), 10u32.pow(d))?;
+    push_decimals(text, left, d)
+}
+
+/// Adds the whole part of a number over a power of ten, and answers what is left.
+fn push_whole(text: &mut Vec<u8>, size: u128, power: u32) -> Result<u32, AllocError>
+    requires { 0 < power }
+    ensures text { OnOk result (text.new.items ≡ text.old.items ++ decimal (size / power)) }
+    ensures left { IfOk result (λ left. left ≡ size % power) }
+{
+    let mut digits = Buffer::new();
+    match u64::try_from(size) {
+        Ok(size) => {
+            let power = u64::from(power);
+            text.extend_from_slice(digits.format(size / power).as_bytes())?;
+            Ok((size % power) as u32)
+        }
+        Err(_) => {
+            let power = u128::from(power);
+            text.extend_from_slice(digits.format(size / power).as_bytes())?;
+            Ok((size % power) as u32)
+        }
+    }
 }
 
 /// The text of a number is read as that number, exactly: for each size below 10^30, which has 30 digits.

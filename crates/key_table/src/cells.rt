@@ -1,5 +1,5 @@
 //! The cells of the table.
-use rule_keys::{Absent, Choice, Key, Kind, words_of};
+use rule_keys::{Absent, Choice, Chosen, Key, Kind, words_of};
 use std::fmt::{self, Display, Formatter, Write};
 
 /// What may stand at a key, in a word.
@@ -24,8 +24,9 @@ impl Display for Default {
         let Default(key) = self;
         match (key.absent, key.kind) {
             (Absent::Refused, _) => Ok(()),
-            (Absent::NoName, _) => f.write_str("none"),
-            (Absent::Number(place), Kind::Word(choice)) => write_word(f, word_at(choice, place)),
+            (Absent::Nothing, _) => f.write_str("none"),
+            (Absent::Chosen(chosen), Kind::Word(choice)) => write_word(f, word_of(choice, chosen)),
+            (Absent::Chosen(_), _) => Ok(()),
             (Absent::Number(number), Kind::Value) => write!(f, "{number} units"),
             (Absent::Number(number), Kind::Moment) => write!(f, "{number} ticks"),
             (Absent::Number(number), _) => write!(f, "{number}"),
@@ -47,7 +48,7 @@ impl Display for Limits {
                     if i > 0 {
                         f.write_str(", ")?;
                     }
-                    write_word(f, word)?;
+                    write_word(f, word.text)?;
                 }
                 Ok(())
             }
@@ -56,12 +57,14 @@ impl Display for Limits {
     }
 }
 
-/// The word at a place among those that may be chosen.
-fn word_at(choice: Choice, place: i64) -> &'static str {
-    match usize::try_from(place) {
-        Ok(place) => words_of(choice).get(place).copied().unwrap_or(""),
-        Err(_) => "",
+/// The word that means this, among those that may be chosen.
+fn word_of(choice: Choice, chosen: Chosen) -> &'static str {
+    for word in words_of(choice) {
+        if word.means == chosen {
+            return word.text;
+        }
     }
+    ""
 }
 
 /// A word as Markdown, in a cell of a table.

@@ -4,9 +4,12 @@
 mod chain;
 mod records;
 mod settled;
+mod text_of;
 mod texts;
+mod ticks;
 mod units;
 
+use records::Form;
 use std::rt::Runtime;
 use std::{env, io};
 
@@ -14,8 +17,15 @@ fn main(rt: HostRuntime) -> io::Result<()> {
     for word in env::args(&rt)?.skip(1) {
         match word.as_str() {
             "blocked" => settled::measure(&rt, true)?,
-            "records" => records::measure(&rt)?,
+            "records" => records::measure(&rt, Form::Plain, false)?,
+            "records-quoted" => records::measure(&rt, Form::Quoted, false)?,
+            "records-crlf" => records::measure(&rt, Form::CrLf, false)?,
+            "slices" => records::measure(&rt, Form::Plain, true)?,
+            "slices-quoted" => records::measure(&rt, Form::Quoted, true)?,
+            "slices-crlf" => records::measure(&rt, Form::CrLf, true)?,
             "settle" => settled::measure(&rt, false)?,
+            "text_of" => text_of::measure(&rt)?,
+            "ticks" => ticks::measure(&rt)?,
             "units" => units::measure(&rt)?,
             _ => println!(rt; "{word} is not measured")?,
         }

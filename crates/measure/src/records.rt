@@ -1,3 +1,5 @@
+//! CSV texts, cut by `record_cut::Cutter` byte by byte or by slices.
+
 use crate::texts::{next_hundredths, push_hundredths};
 use record_cut::{Cutter, Fields};
 use std::alloc::{AllocError, Global};
@@ -7,19 +9,37 @@ use std::time::Instant;
 
 const BYTES: usize = 100_000_000;
 
-/// Prints the picoseconds that `record_cut::Cutter` takes for a byte of CSV with eight short columns, and
-/// the number of fields and of the bytes of first fields, added up.
-pub fn measure<R: Runtime + AllocGlobal>(rt: &R) -> io::Result<()> {
-    let text = text(rt.alloc())?;
+/// The most bytes of a slice that is fed at once.
+const SLICE: usize = 65_536;
+
+/// How the fields and lines of a text are written.
+#[derive(Clone, Copy, PartialEq)]
+pub enum Form {
+    /// Fields as they are, and line feeds.
+    Plain,
+    /// Fields in quotes, and line feeds.
+    Quoted,
+    /// Fields as they are, and carriage returns before the line feeds.
+    CrLf,
+}
+
+/// Prints the picoseconds that a `Cutter` takes for a byte of CSV with eight short columns, fed byte by byte or
+/// by slices, and the number of fields and of the bytes of first fields, added up.
+pub fn measure<R: Runtime + AllocGlobal>(rt: &R, form: Form, by_slices: bool) -> io::Result<()> {
+    let text = text(rt.alloc(), form)?;
     let began = Instant::now(rt)?;
-    let sum = cut(rt.alloc(), text.as_slice());
+    let sum = if by_slices {
+        cut_slices(rt.alloc(), text.as_slice())
+    } else {
+        cut_bytes(rt.alloc(), text.as_slice())
+    };
     let nanos = began.elapsed(rt)?.as_nanos();
     let count = text.len().max(1);
     println!(rt; "{} {sum}", nanos.saturating_mul(1000) / count as u128)
 }
 
-/// Cuts the text, and adds up the sizes of its records.
-fn cut(alloc: Global, text: &[u8]) -> usize {
+/// Cuts the text byte by byte, and adds up the sizes of its records.
+fn cut_bytes(alloc: Global, text: &[u8]) -> usize {
     let mut cutter = Cutter::new(alloc, b',');
     let mut sum = 0usize;
     for byte in text {
@@ -27,10 +47,32 @@ fn cut(alloc: Global, text: &[u8]) -> usize {
             sum = sum.wrapping_add(size(&fields));
         }
     }
-    if let Ok(Some(fields)) = cutter.finish() {
-        sum = sum.wrapping_add(size(&fields));
+    sum.wrapping_add(last_size(&mut cutter))
+}
+
+/// Cuts the text by slices, and adds up the sizes of its records.
+fn cut_slices(alloc: Global, text: &[u8]) -> usize {
+    let mut cutter = Cutter::new(alloc, b',');
+    let mut sum = 0usize;
+    for slice in text.chunks(SLICE) {
+        let mut rest = slice;
+        while !rest.is_empty() {
+            let taken = cutter.feed_slice(rest);
+            if let Ok(Some(fields)) = &taken.answer {
+                sum = sum.wrapping_add(size(fields));
+            }
+            rest = &rest[taken.count..];
+        }
     }
-    sum
+    sum.wrapping_add(last_size(&mut cutter))
+}
+
+/// The size of the record that the end of the text ends, or 0.
+fn last_size(cutter: &mut Cutter) -> usize {
+    match cutter.finish() {
+        Ok(Some(fields)) => size(&fields),
+        _ => 0,
+    }
 }
 
 /// The number of fields and the length of the first.
@@ -39,7 +81,7 @@ fn size(fields: &Fields) -> usize {
     first.wrapping_add(fields.width() as usize)
 }
 
-fn text(alloc: Global) -> Result<Vec<u8>, AllocError> {
+fn text(alloc: Global, form: Form) -> Result<Vec<u8>, AllocError> {
     let mut bytes = Vec::new(alloc);
     let mut state: u64 = 1;
     for column in 0..BYTES {
@@ -48,8 +90,27 @@ fn text(alloc: Global) -> Result<Vec<u8>, AllocError> {
         }
         let (next, number) = next_hundredths(state);
         state = next;
-        push_hundredths(&mut bytes, number)?;
-        bytes.push(if column % 8 == 7 { b'\n' } else { b',' })?;
+        push_field(&mut bytes, number, form)?;
+        push_end(&mut bytes, column % 8 == 7, form)?;
     }
     Ok(bytes)
+}
+
+fn push_field(bytes: &mut Vec<u8>, number: u64, form: Form) -> Result<(), AllocError> {
+    if form != Form::Quoted {
+        return push_hundredths(bytes, number);
+    }
+    bytes.push(b'"')?;
+    push_hundredths(bytes, number)?;
+    bytes.push(b'"')?;
+    Ok(())
+}
+
+/// Adds what stands after a field, the last of a line or another.
+fn push_end(bytes: &mut Vec<u8>, is_last: bool, form: Form) -> Result<(), AllocError> {
+    if is_last && form == Form::CrLf {
+        bytes.push(b'\r')?;
+    }
+    bytes.push(if is_last { b'\n' } else { b',' })?;
+    Ok(())
 }

@@ -1,3 +1,4 @@
+//! How long the greatest distances of a long chain take.
 ghost use Rattle.std.specs.Prelude.{◌≡◌, length};
 
 use crate::chain::{chain, start_all};

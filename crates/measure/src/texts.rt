@@ -23,7 +23,14 @@ pub fn push_hundredths(bytes: &mut Vec<u8>, number: u64) -> Result<(), AllocErro
     Ok(())
 }
 
+/// Adds the last two digits of a number.
+pub fn push_two_digits(bytes: &mut Vec<u8>, number: u64) -> Result<(), AllocError> {
+    bytes.push(digit(number / 10))?;
+    bytes.push(digit(number))?;
+    Ok(())
+}
+
 /// The last digit of a number.
-fn digit(number: u64) -> u8 {
+pub fn digit(number: u64) -> u8 {
     b'0' + (number % 10) as u8
 }

@@ -1,3 +1,4 @@
+//! Readings files that are read, that are refused, and their texts.
 use crate::{Row, TableCause, TableFault, read_table, table_text};
 use std::alloc::{AllocError, Global};
 use std::test::Fail;

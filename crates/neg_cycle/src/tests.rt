@@ -1,3 +1,4 @@
+//! Small graphs with known distances and cycles, and both kinds of graphs.
 ghost use Rattle.std.specs.Prelude.{◌≡◌, ◌<◌, ◌^◌, length, All, IfOk, IfSome};
 ghost use Rattle.std.proofs.Props.{props};
 ghost use Rattle.bound_graph.specs.Arcs.{IsArc};

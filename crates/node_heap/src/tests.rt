@@ -1,3 +1,4 @@
+//! Keys that come out in their order, and a heap that is cleared.
 ghost use Rattle.std.specs.Prelude.{◌≡◌, ◌<◌, ◌^◌, length};
 
 use crate::NodeHeap;

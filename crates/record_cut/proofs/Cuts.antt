@@ -5,84 +5,89 @@ use Rattle.record_cut.specs.Bytes.{is_separator}
 use Rattle.record_cut.specs.Drafted.{Drafted}
 use Rattle.record_cut.specs.Field.{Piece, led_by, led_if_any, quoted, plain, after_field}
 use Rattle.record_cut.specs.Record.{RecordAt, Whole, Bad, Ends, by_what_follows, by_field, record_at}
-use Rattle.record_cut.specs.Records.{Cut, Fault, behind, only, by_record}
-use Rattle.record_cut.specs.Reading.{continued, from_plain, from_quoted, from_closed}
+use Rattle.record_cut.specs.Records.{Cut, Fault, with_records, only, by_record}
+use Rattle.record_cut.specs.Resumed.{continued, from_plain, from_quoted, from_closed}
 use Rattle.record_cut.specs.declared.fault.CutFault.TheVariants.{BadQuote, RecordTooLong}
 use Rattle.record_cut.specs.declared.phase.Place.{Place}
 use Rattle.record_cut.specs.declared.phase.Place.TheVariants.{Field, Plain, PlainCr, Quoted, QuoteInQuoted, ClosedCr}
-use Rattle.record_cut.proofs.Grammar.{quoted-two, quoted-nil}
-use Rattle.record_cut.proofs.Within.{RecordWithin, RecordWithin-with, PieceWithin, GoesWithin, record-within, by_field-within, follows-within, plain-within, quoted-within, after-within}
+use Rattle.record_cut.proofs.Grammar.{quoted-two}
+use Rattle.record_cut.proofs.Within.{RecordWithin, RecordWithin-with, PieceWithin, PieceWithin-more, GoesWithin, record-within, by_field-within, follows-within, plain-within, quoted-within, after-within}
 use Rattle.record_cut.proofs.Steps.{plain_cr-at_line_feed, plain_cr-goes, quote-closes, closed_cr-at_line_feed, closed_cr-at_other}
 
-pub behind-nil : (cut : Cut) → behind [] cut ≡ cut
-behind-nil cut = refl
+pub with_no_records : (cut : Cut) → with_records [] cut ≡ cut
+with_no_records cut = refl
 
-pub behind-behind : (first second : List (List (List ℕ))) (cut : Cut) → behind first (behind second cut) ≡ behind (first ++ second) cut
-behind-behind first second cut = ap (λ records. record { records = records; onward = cut.onward }) (sym (append_assoc first second cut.records))
+pub with_records-twice : (first second : List (List (List ℕ))) (cut : Cut) → with_records first (with_records second cut) ≡ with_records (first ++ second) cut
+with_records-twice first second cut = ap (λ records. record { records = records; onward = cut.onward }) (sym (append_assoc first second cut.records))
 
 -- a record that ends, is wrong or goes on at the byte after the first `count`
 
-pub by_whole : (more : List ℕ → Cut) (all count byte : ℕ) (rest : List ℕ) (fields : List (List ℕ)) → count < 65536 → by_record more all (count + length (byte ∷ rest)) (Whole fields rest) ≡ behind (fields ∷ []) (more rest)
+pub by_whole : (more : List ℕ → Cut) (all count byte : ℕ) (rest : List ℕ) (fields : List (List ℕ)) → count < 65536 → by_record more all (count + length (byte ∷ rest)) (Whole fields rest) ≡ with_records (fields ∷ []) (more rest)
 by_whole more all count byte rest fields h =
     let short : nat_lt 65536 (count + length (byte ∷ rest) - length rest) ≡ false = le-ltb 65536 (count + length (byte ∷ rest) - length rest) (omega arith) in
     rw short refl
 
-pub by_bad : (more : List ℕ → Cut) (all count byte : ℕ) → count < 65536 → by_record more all (count + length (byte ∷ [])) (Bad (byte ∷ [])) ≡ only (Fault BadQuote (all - length (byte ∷ [])))
-by_bad more all count byte h =
-    let before : nat_lt (count + length (byte ∷ []) - length (byte ∷ [])) 65536 ≡ true = lt-ltb (count + length (byte ∷ []) - length (byte ∷ [])) 65536 (omega arith) in
+pub by_bad : (more : List ℕ → Cut) (all count byte : ℕ) (rest : List ℕ) → count < 65536 → by_record more all (count + length (byte ∷ rest)) (Bad (byte ∷ rest)) ≡ only (Fault BadQuote (all - length (byte ∷ rest)))
+by_bad more all count byte rest h =
+    let before : nat_lt (count + length (byte ∷ rest) - length (byte ∷ rest)) 65536 ≡ true = lt-ltb (count + length (byte ∷ rest) - length (byte ∷ rest)) 65536 (omega arith) in
     rw before refl
 
--- the 65,537th byte of a record
-pub by_long : (more : List ℕ → Cut) (all size : ℕ) (x : RecordAt) → size ≡ 65537 → RecordWithin 1 x → by_record more all size x ≡ only (Fault RecordTooLong (all - 1))
-by_long more all size (Whole fields rest) e h =
+-- the 65,537th byte of a record, from which on so many are left
+pub by_long : (more : List ℕ → Cut) (all size left : ℕ) (x : RecordAt) → size ≡ 65536 + left → 0 < left → RecordWithin left x → by_record more all size x ≡ only (Fault RecordTooLong (all - left))
+by_long more all size left (Whole fields rest) e some h =
     let long : nat_lt 65536 (size - length rest) ≡ true = lt-ltb 65536 (size - length rest) (omega arith) in
-    rw (long, e) refl
-by_long more all size (Bad from) e h =
+    let at : size - 65536 ≡ left = omega arith in
+    rw long (ap (λ n. only (Fault RecordTooLong (all - n))) at)
+by_long more all size left (Bad from) e some h =
     let long : nat_lt (size - length from) 65536 ≡ false = le-ltb (size - length from) 65536 (omega arith) in
-    rw (long, e) refl
-by_long more all size (Ends unended) e h = rw e refl
+    let at : size - 65536 ≡ left = omega arith in
+    rw long (ap (λ n. only (Fault RecordTooLong (all - n))) at)
+by_long more all size left (Ends unended) e some h =
+    let long : nat_lt 65536 size ≡ true = lt-ltb 65536 size (omega arith) in
+    let at : size - 65536 ≡ left = omega arith in
+    rw long (ap (λ n. only (Fault RecordTooLong (all - n))) at)
 
--- one byte is left
+-- what the bytes that are left make of a record
 
 goes-within : (size sep : ℕ) → GoesWithin size (record_at sep)
 goes-within size sep = λ rest h. record-within sep rest
 
-plain-left : (sep byte : ℕ) (draft : Drafted) → RecordWithin 1 (from_plain sep draft (byte ∷ []))
+plain-left : (sep : ℕ) (draft : Drafted) (left : List ℕ) → RecordWithin (length left) (from_plain sep draft left)
 unfolding from_plain
-plain-left sep byte draft = RecordWithin-with 1 1 draft.fields (by_field (record_at sep) sep (Some (led_by draft.field (plain sep (byte ∷ []))))) (omega arith) (by_field-within 1 (record_at sep) sep (Some (led_by draft.field (plain sep (byte ∷ [])))) (goes-within 1 sep) (plain-within sep (byte ∷ [])))
+plain-left sep draft left = RecordWithin-with (length left) (length left) draft.fields (by_field (record_at sep) sep (Some (led_by draft.field (plain sep left)))) (omega arith) (by_field-within (length left) (record_at sep) sep (Some (led_by draft.field (plain sep left))) (goes-within (length left) sep) (plain-within sep left))
 
 led-within : (size : ℕ) (bytes : List ℕ) (x : Option Piece) → PieceWithin size x → PieceWithin size (led_if_any bytes x)
 led-within size bytes (Some piece) p = p
 led-within size bytes None p = tt
 
-quoted-left : (sep : ℕ) (draft : Drafted) (bytes : List ℕ) → PieceWithin 1 (quoted bytes) → RecordWithin 1 (from_quoted sep draft bytes)
+quoted-left : (sep : ℕ) (draft : Drafted) (bytes : List ℕ) (size : ℕ) → PieceWithin size (quoted bytes) → RecordWithin size (from_quoted sep draft bytes)
 unfolding from_quoted
-quoted-left sep draft bytes p = RecordWithin-with 1 1 draft.fields (by_field (record_at sep) sep (led_if_any draft.field (quoted bytes))) (omega arith) (by_field-within 1 (record_at sep) sep (led_if_any draft.field (quoted bytes)) (goes-within 1 sep) (led-within 1 draft.field (quoted bytes) p))
+quoted-left sep draft bytes size p = RecordWithin-with size size draft.fields (by_field (record_at sep) sep (led_if_any draft.field (quoted bytes))) (omega arith) (by_field-within size (record_at sep) sep (led_if_any draft.field (quoted bytes)) (goes-within size sep) (led-within size draft.field (quoted bytes) p))
 
-closed-left : (sep byte : ℕ) (draft : Drafted) → RecordWithin 1 (from_closed sep draft (byte ∷ []))
+closed-left : (sep : ℕ) (draft : Drafted) (left : List ℕ) → RecordWithin (length left) (from_closed sep draft left)
 unfolding from_closed
-closed-left sep byte draft = RecordWithin-with 1 1 draft.fields (by_what_follows (record_at sep) draft.field (after_field sep (byte ∷ []))) (omega arith) (follows-within 1 (record_at sep) draft.field (after_field sep (byte ∷ [])) (goes-within 1 sep) (after-within sep (byte ∷ [])))
+closed-left sep draft left = RecordWithin-with (length left) (length left) draft.fields (by_what_follows (record_at sep) draft.field (after_field sep left)) (omega arith) (follows-within (length left) (record_at sep) draft.field (after_field sep left) (goes-within (length left) sep) (after-within sep left))
 
-two-quotes : (byte : ℕ) → byte ≡ 34 → PieceWithin 1 (quoted (34 ∷ byte ∷ []))
-two-quotes byte e = rw (e, quoted-two [], quoted-nil) tt
+two-quotes : (byte : ℕ) (more : List ℕ) → byte ≡ 34 → PieceWithin (length (byte ∷ more)) (quoted (34 ∷ byte ∷ more))
+two-quotes byte more e = rw (e, quoted-two more) (led-within (length (34 ∷ more)) (34 ∷ []) (quoted more) (PieceWithin-more (length more) (length (34 ∷ more)) (quoted more) (omega arith) (quoted-within more)))
 
-pub one-left : (sep byte : ℕ) (place : Place) (draft : Drafted) → IsTrue (is_separator sep) → RecordWithin 1 (continued sep place draft (byte ∷ []))
-one-left sep byte Field draft is = RecordWithin-with 1 1 draft.fields (record_at sep (byte ∷ [])) (omega arith) (record-within sep (byte ∷ []))
-one-left sep byte Plain draft is = plain-left sep byte draft
-one-left sep byte PlainCr draft is =
+pub bytes-left : (sep byte : ℕ) (place : Place) (draft : Drafted) (more : List ℕ) → IsTrue (is_separator sep) → RecordWithin (length (byte ∷ more)) (continued sep place draft (byte ∷ more))
+bytes-left sep byte Field draft more is = RecordWithin-with (length (byte ∷ more)) (length (byte ∷ more)) draft.fields (record_at sep (byte ∷ more)) (omega arith) (record-within sep (byte ∷ more))
+bytes-left sep byte Plain draft more is = plain-left sep draft (byte ∷ more)
+bytes-left sep byte PlainCr draft more is =
     let kept : Drafted = record { fields = draft.fields; field = draft.field ++ 13 ∷ [] } in
     elim (eqb_tells byte 10) [
-      | inl is_so ↦ rw is_so.1 (subst (RecordWithin 1) (sym (plain_cr-at_line_feed sep draft is [])) (omega arith))
-      | inr is_not ↦ subst (RecordWithin 1) (sym (plain_cr-goes sep byte draft kept [] is is_not.1 refl refl)) (plain-left sep byte kept)
+      | inl is_so ↦ rw is_so.1 (subst (RecordWithin (length (10 ∷ more))) (sym (plain_cr-at_line_feed sep draft is more)) (omega arith))
+      | inr is_not ↦ subst (RecordWithin (length (byte ∷ more))) (sym (plain_cr-goes sep byte draft kept more is is_not.1 refl refl)) (plain-left sep kept (byte ∷ more))
     ]
-one-left sep byte Quoted draft is = quoted-left sep draft (byte ∷ []) (quoted-within (byte ∷ []))
-one-left sep byte QuoteInQuoted draft is =
+bytes-left sep byte Quoted draft more is = quoted-left sep draft (byte ∷ more) (length (byte ∷ more)) (quoted-within (byte ∷ more))
+bytes-left sep byte QuoteInQuoted draft more is =
     elim (eqb_tells byte 34) [
-      | inl is_so ↦ quoted-left sep draft (34 ∷ byte ∷ []) (two-quotes byte is_so.1)
-      | inr is_not ↦ subst (RecordWithin 1) (sym (quote-closes sep byte draft [] is_not.1)) (closed-left sep byte draft)
+      | inl is_so ↦ quoted-left sep draft (34 ∷ byte ∷ more) (length (byte ∷ more)) (two-quotes byte more is_so.1)
+      | inr is_not ↦ subst (RecordWithin (length (byte ∷ more))) (sym (quote-closes sep byte draft more is_not.1)) (closed-left sep draft (byte ∷ more))
     ]
-one-left sep byte ClosedCr draft is =
+bytes-left sep byte ClosedCr draft more is =
     elim (eqb_tells byte 10) [
-      | inl is_so ↦ rw is_so.1 (subst (RecordWithin 1) (sym (closed_cr-at_line_feed sep draft is [])) (omega arith))
-      | inr is_not ↦ subst (RecordWithin 1) (sym (closed_cr-at_other sep byte draft [] is is_not.1)) (omega arith)
+      | inl is_so ↦ rw is_so.1 (subst (RecordWithin (length (10 ∷ more))) (sym (closed_cr-at_line_feed sep draft is more)) (omega arith))
+      | inr is_not ↦ subst (RecordWithin (length (byte ∷ more))) (sym (closed_cr-at_other sep byte draft more is is_not.1)) (omega arith)
     ]

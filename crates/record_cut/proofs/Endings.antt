@@ -5,7 +5,7 @@ use Rattle.record_cut.specs.Drafted.{Drafted}
 use Rattle.record_cut.specs.Field.{plain, led_by}
 use Rattle.record_cut.specs.Record.{Unended, Nothing as NoRecord, Fields, OpenField, CrAfterQuote, Ends, with_fields, record_at}
 use Rattle.record_cut.specs.Records.{Cut, Rest, only, by_record, records_from, text_from}
-use Rattle.record_cut.specs.Reading.{continued, resumed, HasOnly, Fits, FitsPlace, from_plain, from_quoted, from_closed}
+use Rattle.record_cut.specs.Resumed.{continued, resumed, HasOnly, Fits, FitsPlace, from_plain, from_quoted, from_closed}
 use Rattle.record_cut.specs.Moves.{Leaves}
 use Rattle.record_cut.specs.declared.fault.CutFault.TheVariants.{BadQuote, RecordTooLong, OpenQuote, Memory}
 use Rattle.record_cut.specs.declared.phase.Place.{Place}

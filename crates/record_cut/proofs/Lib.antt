@@ -5,8 +5,12 @@ pub mod Finishing
 pub mod Grammar
 pub mod Openings
 pub mod RoundTrip
+pub mod Passed
+pub mod Pieces
 pub mod Rows
+pub mod Runs
 pub mod Splits
 pub mod Standing
 pub mod Steps
+pub mod Walk
 pub mod Within

@@ -5,7 +5,7 @@ use Rattle.record_cut.specs.Drafted.{Drafted}
 use Rattle.record_cut.specs.Field.{plain, led_by}
 use Rattle.record_cut.specs.Record.{Nothing, Fields, OpenField, CrAfterQuote, RecordAt, Whole, Bad, Ends, with_fields, record_at}
 use Rattle.record_cut.specs.Records.{by_record, records_from, without_mark, text_from}
-use Rattle.record_cut.specs.Reading.{HasOnly, from_plain}
+use Rattle.record_cut.specs.Resumed.{HasOnly, from_plain}
 use Rattle.record_cut.specs.Moves.{Opens}
 use Rattle.record_cut.specs.declared.phase.Place.TheVariants.{Field, Plain}
 use Rattle.record_cut.specs.declared.phase.Phase.TheVariants.{Input, MarkOne, MarkTwo, Record, RecordCr}

@@ -1,26 +1,19 @@
 -- The text of a row is read back as its fields.
 use Rattle.std.proofs.Common.{◌≡◌, ◌≢◌, inl, inr, ℕ, ◌-◌, ◌<◌, ◌≤◌, ◌==◌, ◌||◌, ◌&&◌, nat_lt, Bool, true, false, IsTrue, List, [], ◌∷◌, ◌++◌, length, Some, None, refl, sym, ap, ◌∙◌, subst, arith, append_assoc, ne_eqb, eq-eqb, le-ltb, length-append}
 use Rattle.std.proofs.lemmas.Bool.Decides.{eqb_tells}
-use Rattle.std.proofs.lemmas.Bool.{both_ways, eqb-false}
+use Rattle.std.proofs.lemmas.Bool.{both_ways}
 use Rattle.words.proofs.Texts.{or_right}
 use Rattle.record_cut.specs.Bytes.{is_separator, after_line_break}
 use Rattle.record_cut.specs.Field.{led_by, led_if_any, quoted, ends_plain, plain, field_at}
 use Rattle.record_cut.specs.Record.{Nothing, Whole, with_fields, record_at}
-use Rattle.record_cut.specs.Records.{Cut, Rest, behind, by_record, records_from, without_mark, records}
+use Rattle.record_cut.specs.Records.{Cut, Rest, with_records, by_record, records_from, without_mark, records}
 use Rattle.record_cut.specs.Row.{holds_special, begins_with_mark, doubled, doubled_if_quote, field_text, first_in_quotes, text_of_others, text_of_row}
 use Rattle.record_cut.specs.RoundTrip.{text_of_rows, AreWithinLimits, RoundTrip}
 use Rattle.record_cut.proofs.Grammar.{other_byte, plain-other, quoted-two, quoted-close, quoted-other, field-quote, field-other, after-sep, after-line_feed, other-no_break}
 use Rattle.record_cut.proofs.Within.{record-field, records-nil}
 use Rattle.record_cut.proofs.Openings.{line-read, mark-first, no_mark, no_mark-nil}
+use Rattle.record_cut.proofs.Runs.{or-left, or-right, ordinary, others-ordinary}
 use Rattle.record_cut.proofs.Rows.{doubled-cons, doubled-nil, others-cons, others-nil}
-
-or-left : (a b : Bool) → (a || b) ≡ false → a ≡ false
-or-left true b e = e
-or-left false b e = refl
-
-or-right : (a b : Bool) → (a || b) ≡ false → b ≡ false
-or-right true b e = absurd (both_ways true e refl)
-or-right false b e = e
 
 and-false : (a : Bool) → (a && false) ≡ false
 and-false true = refl
@@ -54,28 +47,6 @@ line_feed-stops sep is = record {
   no_third = λ e. cc;
   no_break = λ rest e. absurd (other_byte sep 10 is refl e);
 }
-
--- a byte that is not special
-record IsOrdinary (sep byte : ℕ) : Type 0 where
-  no_sep : byte ≢ sep
-  no_quote : byte ≢ 34
-  no_cr : byte ≢ 13
-  no_line_feed : byte ≢ 10
-
-ordinary : (sep byte : ℕ) (rest : List ℕ) → holds_special sep (byte ∷ rest) ≡ false → IsOrdinary sep byte
-ordinary sep byte rest e =
-    let here : (byte == sep || byte == 34 || byte == 13 || byte == 10) ≡ false = or-left (byte == sep || byte == 34 || byte == 13 || byte == 10) (holds_special sep rest) e in
-    let three : (byte == sep || byte == 34 || byte == 13) ≡ false = or-left (byte == sep || byte == 34 || byte == 13) (byte == 10) here in
-    let two : (byte == sep || byte == 34) ≡ false = or-left (byte == sep || byte == 34) (byte == 13) three in
-    record {
-      no_sep = eqb-false byte sep (or-left (byte == sep) (byte == 34) two);
-      no_quote = eqb-false byte 34 (or-right (byte == sep) (byte == 34) two);
-      no_cr = eqb-false byte 13 (or-right (byte == sep || byte == 34) (byte == 13) three);
-      no_line_feed = eqb-false byte 10 (or-right (byte == sep || byte == 34 || byte == 13) (byte == 10) here);
-    }
-
-others-ordinary : (sep byte : ℕ) (rest : List ℕ) → holds_special sep (byte ∷ rest) ≡ false → holds_special sep rest ≡ false
-others-ordinary sep byte rest e = or-right (byte == sep || byte == 34 || byte == 13 || byte == 10) (holds_special sep rest) e
 
 plain-stops : (sep byte : ℕ) (rest : List ℕ) → Stops sep byte → plain sep (byte ∷ rest) ≡ record { value = []; rest = byte ∷ rest }
 unfolding plain
@@ -192,7 +163,7 @@ row-begins sep (field ∷ others) rest is some = subst Begins (sym (row-parts se
 
 -- rows
 
-by_row : (more : List ℕ → Cut) (all size : ℕ) (row : List (List ℕ)) (rest : List ℕ) → size - length rest ≤ 65536 → by_record more all size (Whole row rest) ≡ behind (row ∷ []) (more rest)
+by_row : (more : List ℕ → Cut) (all size : ℕ) (row : List (List ℕ)) (rest : List ℕ) → size - length rest ≤ 65536 → by_record more all size (Whole row rest) ≡ with_records (row ∷ []) (more rest)
 by_row more all size row rest h =
     let short : nat_lt 65536 (size - length rest) ≡ false = le-ltb 65536 (size - length rest) h in
     rw short refl
@@ -205,7 +176,7 @@ rows-back sep all (row ∷ rows) is within =
     let b = row-begins sep row rest is within.0 in
     let read : record_at sep (b.first ∷ b.tail) ≡ Whole row rest = ap (record_at sep) (sym b.is) ∙ row-back sep row rest is within.0 in
     let long : length bytes - length rest ≤ 65536 = omega (arith, length-append (text_of_row sep row) rest, within.1) in
-    ap (records_from sep all) b.is ∙ line-read sep all b.first (length bytes) b.tail (Whole row rest) b.no_break (ap length b.is) read ∙ by_row (records_from sep all) all (length bytes) row rest long ∙ ap (behind (row ∷ [])) (rows-back sep all rows is within.2)
+    ap (records_from sep all) b.is ∙ line-read sep all b.first (length bytes) b.tail (Whole row rest) b.no_break (ap length b.is) read ∙ by_row (records_from sep all) all (length bytes) row rest long ∙ ap (with_records (row ∷ [])) (rows-back sep all rows is within.2)
 
 rows-unmarked : (sep : ℕ) (rows : List (List (List ℕ))) → IsTrue (is_separator sep) → AreWithinLimits sep rows → without_mark (text_of_rows sep rows) ≡ text_of_rows sep rows
 rows-unmarked sep [] is within = no_mark-nil

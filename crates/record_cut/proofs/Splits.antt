@@ -1,7 +1,8 @@
 -- Fields in one list of bytes with their ends.
-use Rattle.std.proofs.Common.{◌≡◌, ◌≢◌, ℕ, zero, suc, ◌-◌, ◌<◌, ◌≤◌, List, [], ◌∷◌, ◌++◌, length, get_or, take, drop, refl, sym, ap, ◌∙◌, arith, length-append}
-use Rattle.std.proofs.lemmas.List.{take-append-le, drop-append-le, length-drop, drop_at, take_all}
+use Rattle.std.proofs.Common.{◌≡◌, ◌≢◌, ℕ, zero, suc, ◌+◌, ◌-◌, ◌<◌, ◌≤◌, List, [], ◌∷◌, ◌++◌, length, get_or, take, drop, refl, sym, ap, ◌∙◌, arith, length-append}
+use Rattle.std.proofs.lemmas.List.{take-append-le, drop-append-le, length-drop, length-take-le, drop_at, take_all}
 use native.Mathlib.Numerals.{unary_clauses}
+use Rattle.record_cut.specs.Drafted.{size_of_fields}
 use Rattle.record_cut.specs.Split.{pieces, Rises, starts_at}
 
 pub pieces-nil : (bytes : List ℕ) (from : ℕ) → pieces bytes from [] ≡ []
@@ -112,3 +113,30 @@ field_ended bytes ends ends' start end rises h e f =
 
 pub new-start : (ends : List ℕ) → ends ≡ [] → Rises 0 ends 0
 new-start ends e = rw e Rises-nil
+
+-- the bytes of the fields and one for each, of fields in one list of bytes
+
+size-pieces : (bytes : List ℕ) (from : ℕ) (ends : List ℕ) (to : ℕ) → Rises from ends to → to ≤ length bytes → size_of_fields (pieces bytes from ends) + from ≡ to + length ends
+unfolding pieces Rises
+size-pieces bytes from [] to e h = omega arith
+size-pieces bytes from (end ∷ ends) to (here, later) h =
+    let others = size-pieces bytes end ends to later h in
+    let within : end ≤ length bytes = omega (arith, Rises-order end ends to later) in
+    let first : length (take (end - from) (drop from bytes)) ≡ end - from = length-take-le (end - from) (drop from bytes) (omega (arith, length-drop from bytes)) in
+    omega (arith, others, first)
+
+pub size-drafted : (bytes ends : List ℕ) (start : ℕ) → Rises 0 ends start → start ≤ length bytes → size_of_fields (pieces bytes 0 ends) + length (drop start bytes) ≡ length bytes + length ends
+size-drafted bytes ends start rises h = omega (arith, size-pieces bytes 0 ends start rises h, length-drop start bytes)
+
+pub size-pushed : (bytes ends bytes' more : List ℕ) (start : ℕ) → Rises 0 ends start → start ≤ length bytes → bytes' ≡ bytes ++ more → size_of_fields (pieces bytes' 0 ends) + length (drop start bytes') ≡ size_of_fields (pieces bytes 0 ends) + length (drop start bytes) + length more
+size-pushed bytes ends bytes' more start rises h e =
+    let longer : length bytes' ≡ length bytes + length more = ap length e ∙ length-append bytes more in
+    omega (arith, size-drafted bytes ends start rises h, size-drafted bytes' ends start rises (omega arith), longer)
+
+pub size-ended : (bytes ends ends' : List ℕ) (start end : ℕ) → Rises 0 ends start → start ≤ length bytes → end ≡ length bytes → ends' ≡ ends ++ end ∷ [] → size_of_fields (pieces bytes 0 ends') + length (drop end bytes) ≡ size_of_fields (pieces bytes 0 ends) + length (drop start bytes) + 1
+size-ended bytes ends ends' start end rises h e f =
+    let longer : length ends' ≡ length ends + 1 = ap length f ∙ length-append ends (end ∷ []) in
+    omega (arith, size-drafted bytes ends start rises h, size-drafted bytes ends' end (end_pushed bytes ends ends' start end rises h e f) (omega arith), longer)
+
+pub Rises-copied : (bytes ends bytes' ends' : List ℕ) → bytes' ≡ bytes → ends' ≡ ends → Rises 0 ends (length bytes) → Rises 0 ends' (length bytes')
+Rises-copied bytes ends bytes' ends' e f rises = rw (e, f) rises

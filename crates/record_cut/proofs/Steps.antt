@@ -5,7 +5,7 @@ use Rattle.record_cut.specs.Bytes.{is_separator}
 use Rattle.record_cut.specs.Drafted.{Drafted}
 use Rattle.record_cut.specs.Field.{Piece, led_by, led_if_any, quoted, plain, Line, End, LastCr, Wrong, after_field}
 use Rattle.record_cut.specs.Record.{Nothing, Fields, OpenField, CrAfterQuote, RecordAt, Whole, Bad, Ends, with_fields, by_field, record_at}
-use Rattle.record_cut.specs.Reading.{from_plain, from_quoted, from_closed, continued, FitsPlace}
+use Rattle.record_cut.specs.Resumed.{from_plain, from_quoted, from_closed, continued, FitsPlace}
 use Rattle.record_cut.specs.Moves.{Keeps, EndsField, GoesTo, Moves}
 use Rattle.record_cut.specs.declared.fault.CutFault.{CutFault}
 use Rattle.record_cut.specs.declared.fault.CutFault.TheVariants.{BadQuote, RecordTooLong, OpenQuote, Memory}

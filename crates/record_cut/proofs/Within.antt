@@ -85,7 +85,7 @@ quoted-within (byte ∷ next ∷ rest) =
     (PieceWithin-if (length (byte ∷ next ∷ rest)) (next == quote) (led_if_any (quote ∷ []) (quoted rest)) (Some (record { value = []; rest = next ∷ rest })) (PieceWithin-led (length rest) (length (byte ∷ next ∷ rest)) (quote ∷ []) (quoted rest) (omega arith) (quoted-within rest)) (omega arith))
     (PieceWithin-led (length (next ∷ rest)) (length (byte ∷ next ∷ rest)) (byte ∷ []) (quoted (next ∷ rest)) (omega arith) (quoted-within (next ∷ rest)))
 
-PieceWithin-more : (size more : ℕ) (x : Option Piece) → size ≤ more → PieceWithin size x → PieceWithin more x
+pub PieceWithin-more : (size more : ℕ) (x : Option Piece) → size ≤ more → PieceWithin size x → PieceWithin more x
 PieceWithin-more size more (Some piece) h p = omega arith
 PieceWithin-more size more None h p = tt
 

@@ -1,4 +1,4 @@
--- The bytes that mean something in a CSV text.
+-- To be believed: the bytes that mean something in a CSV text.
 use Rattle.std.specs.Prelude.{ℕ, Bool, ◌==◌, ◌||◌, List, [], ◌∷◌, Option, Some, None, if◌then◌else◌}
 
 abbrev pub quote : ℕ

@@ -1,4 +1,4 @@
--- A field at the beginning of some bytes, and what stands directly after it.
+-- To be believed: a field at the beginning of some bytes, and what stands directly after it.
 use Rattle.std.specs.Prelude.{ℕ, Bool, false, ◌==◌, ◌||◌, List, [], ◌∷◌, ◌++◌, Option, Some, None, is_some, if◌then◌else◌}
 use Rattle.record_cut.specs.Bytes.{quote, carriage_return, after_line_break}
 

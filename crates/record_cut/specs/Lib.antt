@@ -1,10 +1,13 @@
 pub mod Bytes
 pub mod Drafted
+pub mod Ended
+pub mod Feeds
 pub mod Field
 pub mod Moves
-pub mod Reading
+pub mod Quotes
 pub mod Record
 pub mod Records
+pub mod Resumed
 pub mod RoundTrip
 pub mod Row
 pub mod Split

@@ -1,16 +1,17 @@
--- What a byte does to a record that is being read.
-use Rattle.std.specs.Prelude.{◌≡◌, ℕ, suc, List, [], ◌∷◌, ◌++◌, Result, Ok, Err}
+-- For proofs: what a byte does to a record that is being read.
+use Rattle.std.specs.Prelude.{◌≡◌, ℕ, suc, ◌<◌, List, [], ◌∷◌, ◌++◌, Result, Ok, Err}
 use Rattle.record_cut.specs.Bytes.{carriage_return}
 use Rattle.record_cut.specs.Record.{Whole, Bad, Fields, OpenField, CrAfterQuote, Nothing as NoRecord}
 use Rattle.record_cut.specs.Records.{Rest, only, records_from}
 use Rattle.record_cut.specs.Drafted.{Drafted}
-use Rattle.record_cut.specs.Reading.{continued, resumed, FitsPlace, Fits}
+use Rattle.record_cut.specs.Resumed.{continued, resumed, FitsPlace, Fits}
 use Rattle.record_cut.specs.declared.fault.CutFault.{CutFault}
 use Rattle.record_cut.specs.declared.fault.CutFault.TheVariants.{BadQuote, RecordTooLong, OpenQuote, Memory}
 use Rattle.record_cut.specs.declared.phase.Place.{Place}
 use Rattle.record_cut.specs.declared.phase.Place.TheVariants.{Field as AtField}
 use Rattle.record_cut.specs.declared.phase.Phase.{Phase}
 use Rattle.record_cut.specs.declared.phase.Phase.TheVariants.{Inside}
+use Rattle.record_cut.specs.declared.phase.Run.{Run}
 use Rattle.record_cut.specs.declared.phase.Move.{Move}
 use Rattle.record_cut.specs.declared.phase.Move.TheVariants.{To, EndRecord}
 use Rattle.record_cut.specs.declared.phase.Opening.{Opening}
@@ -48,6 +49,16 @@ Moves sep place old byte (Err BadQuote) new = (more : List ℕ) → continued se
 Moves sep place old byte (Err RecordTooLong) new = ⊥
 Moves sep place old byte (Err OpenQuote) new = ⊥
 Moves sep place old byte (Err Memory) new = Unit {0}
+
+-- a run of so many bytes, at least one, after which the next byte stands at this place
+pub record IsRun (len : ℕ) (next : Place) (run : Run) : Type 0 where
+  pub len_is : run.len ≡ len
+  pub next_is : run.next ≡ next
+  pub some : 0 < len
+
+-- by the grammar, these bytes all belong to the field, and the next one stands at this place
+abbrev pub RunsTo : ℕ → Place → List ℕ → Place → Type 0
+RunsTo sep place run next = (old new : Drafted) → FitsPlace place old → new.fields ≡ old.fields → new.field ≡ old.field ++ run → FitsPlace next new × ((more : List ℕ) → continued sep place old (run ++ more) ≡ continued sep next new more)
 
 -- by the grammar, the byte after these that began the record belongs to the record itself, may yet be
 -- something else, or ends an empty line or a mark

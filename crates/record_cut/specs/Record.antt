@@ -1,4 +1,4 @@
--- A record at the beginning of some bytes, a field at a time.
+-- To be believed: a record at the beginning of some bytes, a field at a time.
 use Rattle.std.specs.Prelude.{ℕ, zero, suc, List, [], ◌∷◌, ◌++◌, length, Option, Some, None}
 use Rattle.record_cut.specs.Field.{Piece, field_at, After, Next, Line, End, LastCr, Wrong, after_field}
 

@@ -1,13 +1,10 @@
--- The records of a text, and how it goes on after them.
+-- To be believed: the records of a text, and how it goes on after them.
 use Rattle.std.specs.Prelude.{ℕ, zero, suc, ◌-◌, ◌==◌, ◌&&◌, nat_lt, List, [], ◌∷◌, ◌++◌, length, Option, Some, None, if◌then◌else◌}
 use Rattle.record_cut.specs.Bytes.{after_line_break}
 use Rattle.record_cut.specs.Record.{Unended, Nothing, RecordAt, Whole, Bad, Ends, record_at}
+use Rattle.record_cut.specs.declared.cutter.TheConstants.{LONGEST}
 use Rattle.record_cut.specs.declared.fault.CutFault.{CutFault}
 use Rattle.record_cut.specs.declared.fault.CutFault.TheVariants.{BadQuote, RecordTooLong}
-
--- the most bytes of a record, its line break counted
-abbrev pub longest : ℕ
-longest = 65536
 
 -- how a text goes on after its last record that has a line break
 pub data Onward : Type 0 where
@@ -21,23 +18,23 @@ pub record Cut : Type 0 where
   pub records : List (List (List ℕ))
   pub onward : Onward
 
--- the cut, before which these records come
-abbrev pub behind : List (List (List ℕ)) → Cut → Cut
-behind first cut = record { records = first ++ cut.records; onward = cut.onward }
+-- the cut, of which these records come first
+abbrev pub with_records : List (List (List ℕ)) → Cut → Cut
+with_records first cut = record { records = first ++ cut.records; onward = cut.onward }
 
 abbrev pub only : Onward → Cut
 only onward = record { records = []; onward = onward }
 
 -- The text has `all` bytes, and from the first byte of this record on `size`.
 abbrev pub too_long : ℕ → ℕ → Cut
-too_long all size = only (Fault RecordTooLong (all - (size - longest)))
+too_long all size = only (Fault RecordTooLong (all - (size - LONGEST)))
 
 -- By the record that comes next, `size` bytes before the end of the text. It is too long from its byte
 -- 65,537 on; a record without an end has all bytes that follow. A wrong byte counts only before that.
 abbrev pub by_record : (List ℕ → Cut) → ℕ → ℕ → RecordAt → Cut
-by_record more all size (Whole fields rest) = if nat_lt longest (size - length rest) then too_long all size else behind (fields ∷ []) (more rest)
-by_record more all size (Bad from) = if nat_lt (size - length from) longest then only (Fault BadQuote (all - length from)) else too_long all size
-by_record more all size (Ends unended) = if nat_lt longest size then too_long all size else only (Rest unended)
+by_record more all size (Whole fields rest) = if nat_lt LONGEST (size - length rest) then too_long all size else with_records (fields ∷ []) (more rest)
+by_record more all size (Bad from) = if nat_lt (size - length from) LONGEST then only (Fault BadQuote (all - length from)) else too_long all size
+by_record more all size (Ends unended) = if nat_lt LONGEST size then too_long all size else only (Rest unended)
 
 abbrev pub by_line_break : (List ℕ → Cut) → Cut → Option (List ℕ) → Cut
 by_line_break more other (Some rest) = more rest

@@ -1,4 +1,4 @@
--- A list of byte fields as one list of bytes with the ends of the fields.
+-- For proofs: a list of byte fields as one list of bytes with the ends of the fields.
 use Rattle.std.specs.Prelude.{◌≡◌, ℕ, zero, suc, ◌-◌, ◌≤◌, List, [], ◌∷◌, take, drop}
 
 -- the fields that end at these places, of which the first begins at `from`

@@ -1,20 +1,24 @@
-ghost use Rattle.std.specs.Prelude.{◌≤◌, length, IsTrue};
+//! A cutter of CSV records, which is fed the bytes of a text one at a time or by slices.
+
+ghost use Rattle.std.specs.Prelude.{◌≤◌, ◌*◌, IsTrue};
 ghost use Rattle.record_cut.specs.Bytes.{is_separator};
+ghost use Rattle.record_cut.specs.Drafted.{size_of};
+ghost use Rattle.record_cut.specs.declared.cutter.TheConstants.{LONGEST};
 
 use crate::bytes::CARRIAGE_RETURN;
 use crate::draft::Draft;
 use crate::fault::CutFault;
 use crate::fields::Fields;
 use crate::phase::{Ending, Move, Opening, Phase};
-use crate::place::{ending, opening, read};
+use crate::place::{ending, opening, read, run_at};
+use crate::taken::Taken;
 use std::alloc::Global;
-use std::mem;
 
 /// The most bytes of a record, its line break counted.
-const LONGEST: u32 = 65_536;
+pub const LONGEST: u32 = 65_536;
 
-/// A cutter of CSV records, fed a byte at a time. It keeps no more of the text than the record that it
-/// is in. After a refusal it refuses for ever.
+/// A cutter of CSV records. It keeps no more of the text than the record that it is in. After a refusal it
+/// refuses for ever.
 #[derive(Drop)]
 pub struct Cutter {
     alloc: Global,
@@ -23,14 +27,15 @@ pub struct Cutter {
     count: u32,
     draft: Draft,
     ghost separates: { IsTrue (is_separator sep) },
-    ghost short: { count ≤ 65536 },
-    ghost few: { length draft.fields ≤ count },
+    ghost short: { count ≤ LONGEST },
+    ghost small: { size_of draft ≤ 2 * count },
 }
 
 impl Cutter {
-    ghost use Rattle.std.specs.Prelude.{◌≡◌, ℕ, List, [], ◌∷◌, ◌++◌, Option, Result, Ok, Err, IsTrue, IfOk, OnOk, IfErr};
+    ghost use Rattle.std.specs.Prelude.{◌≡◌, ℕ, ◌<◌, ◌≤◌, List, [], ◌∷◌, ◌++◌, take, length, Option, Some, None, Result, Ok, Err, IsTrue, IfOk, OnOk, IfErr};
     ghost use Rattle.record_cut.specs.Bytes.{is_separator};
-    ghost use Rattle.record_cut.specs.StandsFor.{StandsFor, HasRefused, HasBegun, Feeds, Ends};
+    ghost use Rattle.record_cut.specs.StandsFor.{StandsFor, HasRefused, HasBegun};
+    ghost use Rattle.record_cut.specs.Feeds.{GoesOn, Feeds, Ends, taken_after};
     ghost use Rattle.record_cut.specs.declared.fault.CutFault.{CutFault};
 
     /// A cutter that has read nothing, of a text whose fields `sep` separates: a comma, a semicolon, a tab
@@ -54,8 +59,8 @@ impl Cutter {
     /// `BadQuote` and `RecordTooLong` come at the byte that is wrong, `Memory` at any byte, and each for
     /// ever after.
     pub fn feed(&mut self, byte: u8) -> Result<Option<Fields>, CutFault>
-        ensures feeds { (sep : ℕ) (bytes : List ℕ)
-            → StandsFor self.old sep bytes → Feeds sep bytes byte result self.new }
+        ensures feeds { (sep : ℕ) (before : List ℕ)
+            → StandsFor self.old sep before → Feeds sep before (byte ∷ []) result self.new }
         ensures refuses { IfErr result (HasRefused self.new) }
         ensures refused { (fault : CutFault) → HasRefused self.old fault → result ≡ Err fault }
     {
@@ -67,6 +72,39 @@ impl Cutter {
             self.phase = Phase::Refused(*fault);
         }
         answer
+    }
+
+    /// Reads bytes of the text as `feed` would, one after the other, up to the first that ends a record or is
+    /// refused, or all of them. The next call goes on after those that were taken.
+    ///
+    /// Of no bytes it takes none, and refuses none. The faults are those of `feed`.
+    pub fn feed_slice(&mut self, bytes: &[u8]) -> Taken
+        ensures feeds { (sep : ℕ) (before : List ℕ)
+            → StandsFor self.old sep before
+            → Feeds sep before (take result.count bytes.now) result.answer self.new }
+        ensures within { result.count ≤ length bytes.now }
+        ensures all { result.answer ≡ Ok None → result.count ≡ length bytes.now }
+        ensures some { 0 < length bytes.now → 0 < result.count }
+
+        ensures refuses { IfErr result.answer (HasRefused self.new) }
+        ensures refused { (fault : CutFault) → HasRefused self.old fault
+            → HasRefused self.new fault × (result ≡ taken_after fault bytes.now) }
+    {
+        let mut count = 0;
+        while count < bytes.len() {
+            let next = self.feed_run(&bytes[count..]);
+            count += next.count;
+            if !next.goes_on() {
+                return Taken {
+                    count,
+                    answer: next.answer,
+                };
+            }
+        }
+        Taken {
+            count,
+            answer: Ok(None),
+        }
     }
 
     /// The text has ended. Where bytes of a record stand after the last line break, it answers that
@@ -90,10 +128,70 @@ impl Cutter {
         answer
     }
 
+    /// Reads the ordinary bytes that come first, and the byte after them.
+    fn feed_run(&mut self, bytes: &[u8]) -> Taken
+        requires { 0 < length bytes.now }
+        ensures feeds { (sep : ℕ) (before : List ℕ)
+            → StandsFor self.old sep before
+            → Feeds sep before (take result.count bytes.now) result.answer self.new }
+        ensures within { result.count ≤ length bytes.now }
+        ensures some { 0 < result.count }
+
+        ensures refuses { IfErr result.answer (HasRefused self.new) }
+        ensures refused { (fault : CutFault) → HasRefused self.old fault
+            → result ≡ record { count = 1; answer = Err fault } }
+    {
+        let run = match self.take_run(bytes) {
+            Ok(run) => run,
+            Err(fault) => {
+                self.phase = Phase::Refused(fault);
+                return Taken {
+                    count: 1,
+                    answer: Err(fault),
+                };
+            }
+        };
+        if run == bytes.len() {
+            return Taken {
+                count: run,
+                answer: Ok(None),
+            };
+        }
+        Taken {
+            count: run + 1,
+            answer: self.feed(bytes[run]),
+        }
+    }
+
+    /// Takes the ordinary bytes that come first and go on with a field, as many as the record may have, and
+    /// says how many.
+    fn take_run(&mut self, bytes: &[u8]) -> Result<usize, CutFault>
+        ensures within { IfOk result (λ run. run ≤ length bytes.now) }
+        ensures goes_on { (sep : ℕ) (before : List ℕ)
+            → StandsFor self.old sep before
+            → IfOk result (λ run. GoesOn sep before (take run bytes.now) [] self.new) }
+        ensures err { IfErr result (λ fault. fault ≡ CutFault.Memory) }
+        ensures refused { (fault : CutFault) → HasRefused self.old fault
+            → HasRefused self.new fault × (result ≡ Ok 0) }
+    {
+        let Phase::Inside(place) = self.phase else {
+            return Ok(0);
+        };
+        let room = (LONGEST - self.count) as usize;
+        let bytes = &bytes[..bytes.len().min(room)];
+        let Some(run) = run_at(place, self.sep, bytes) else {
+            return Ok(0);
+        };
+        self.draft.extend(&bytes[..run.len])?;
+        self.count += run.len as u32;
+        self.phase = Phase::Inside(run.next);
+        Ok(run.len)
+    }
+
     /// The next byte, where nothing has been refused.
     fn step(&mut self, byte: u8) -> Result<Option<Fields>, CutFault>
-        ensures { (sep : ℕ) (bytes : List ℕ)
-            → StandsFor self.old sep bytes → Feeds sep bytes byte result self.new }
+        ensures { (sep : ℕ) (before : List ℕ)
+            → StandsFor self.old sep before → Feeds sep before (byte ∷ []) result self.new }
     {
         if self.count >= LONGEST {
             return Err(CutFault::RecordTooLong);
@@ -105,15 +203,13 @@ impl Cutter {
                     self.phase = Phase::Inside(next);
                     Ok(None)
                 }
-                Move::EndRecord => Ok(Some(self.end_record(Phase::Record)?)),
+                Move::EndRecord => Ok(Some(self.end_record(Phase::Record, b"")?)),
             },
-            Opening::Keep(phase) => match self.draft.add(byte) {
-                Ok(()) => {
-                    self.phase = phase;
-                    Ok(None)
-                }
-                Err(_) => Err(CutFault::Memory),
-            },
+            Opening::Keep(phase) => {
+                self.draft.add(byte)?;
+                self.phase = phase;
+                Ok(None)
+            }
             Opening::Skip => {
                 self.begin(Phase::Record);
                 Ok(None)
@@ -132,31 +228,26 @@ impl Cutter {
                 self.begin(Phase::Input);
                 Ok(None)
             }
-            Ending::Field => Ok(Some(self.end_record(Phase::Input)?)),
-            Ending::FieldAndCr => match self.draft.add(CARRIAGE_RETURN) {
-                Ok(()) => Ok(Some(self.end_record(Phase::Input)?)),
-                Err(_) => Err(CutFault::Memory),
-            },
+            Ending::Field => Ok(Some(self.end_record(Phase::Input, b"")?)),
+            Ending::FieldAndCr => Ok(Some(self.end_record(Phase::Input, b"\r")?)),
             Ending::Refuse(fault) => Err(fault),
         }
     }
 
-    /// Hands out the fields of the record, and begins the next in this phase.
-    fn end_record(&mut self, phase: Phase) -> Result<Fields, CutFault>
+    /// Hands out the fields of the record, of which the last ends with the byte that waited, if one did, and
+    /// begins the next record in this phase.
+    fn end_record(&mut self, phase: Phase, waiting: &[u8]) -> Result<Fields, CutFault>
+        requires { length waiting.now ≤ 1 }
         ensures fields { IfOk result
-            (λ fields. fields ≡ self.old.draft.fields ++ self.old.draft.field ∷ []) }
+            (λ fields. fields ≡ self.old.draft.fields ++ (self.old.draft.field ++ waiting.now) ∷ []) }
         ensures begun { OnOk result (HasBegun phase self.new) }
         ensures sep { self.new.sep ≡ self.old.sep }
         ensures err { IfErr result (λ fault. fault ≡ CutFault.Memory) }
     {
-        if self.draft.end_field().is_err() {
-            return Err(CutFault::Memory);
-        }
-        let next = self.draft.new_with_room(self.alloc);
-        let draft = mem::replace(&mut self.draft, next);
+        let fields = self.draft.take_fields(self.alloc, waiting);
         self.phase = phase;
         self.count = 0;
-        Ok(draft.into_fields())
+        Ok(fields?)
     }
 
     /// Begins the next record, of which nothing has been read, in this phase.
@@ -164,7 +255,7 @@ impl Cutter {
         ensures begun { HasBegun phase self.new }
         ensures sep { self.new.sep ≡ self.old.sep }
     {
-        self.draft = Draft::new(self.alloc);
+        self.draft.clear();
         self.phase = phase;
         self.count = 0;
     }

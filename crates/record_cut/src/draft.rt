@@ -1,14 +1,18 @@
-ghost use Rattle.std.specs.Prelude.{◌≡◌, []};
+//! The record that a cutter is in.
+
+ghost use Rattle.std.specs.Prelude.{◌≡◌, ℕ, ◌+◌, ◌≤◌, ◌<◌, ◌^◌, [], ◌∷◌, ◌++◌, length, IfOk, OnOk, OnErr};
+ghost use Rattle.record_cut.specs.Drafted.{size_of};
 
 use crate::fields::Fields;
 use std::alloc::{AllocError, Global};
 use std::marker::Model;
 
-/// The fields of a record that have ended, and the bytes of the next one so far.
+/// The fields of a record that have ended, and the bytes of the next one so far. Its buffers stay for the
+/// next record.
 #[derive(Drop)]
 pub(crate) struct Draft {
     bytes: Vec<u8>,
-    ends: Vec<usize>,
+    ends: Vec<u32>,
     start: usize,
 }
 
@@ -25,8 +29,6 @@ impl Model for Draft {
 }
 
 impl Draft {
-    ghost use Rattle.std.specs.Prelude.{◌≡◌, ◌+◌, ◌<◌, ◌^◌, List, ℕ, [], ◌∷◌, ◌++◌, length, OnOk, OnErr};
-
     /// No field and no byte. It takes no memory.
     pub(crate) fn new(alloc: Global) -> Draft
         ensures fields { result.fields ≡ [] }
@@ -39,65 +41,81 @@ impl Draft {
         }
     }
 
-    /// The same with room for as much as this one holds, where there is memory for it.
-    pub(crate) fn new_with_room(&self, alloc: Global) -> Draft
-        ensures fields { result.fields ≡ [] }
-        ensures field { result.field ≡ [] }
+    /// Drops all fields and bytes.
+    pub(crate) fn clear(&mut self)
+        ensures fields { self.new.fields ≡ [] }
+        ensures field { self.new.field ≡ [] }
     {
-        Draft {
-            bytes: empty_bytes(alloc, self.bytes.len()),
-            ends: empty_ends(alloc, self.ends.len()),
-            start: 0,
-        }
+        self.bytes.clear();
+        self.ends.clear();
+        self.start = 0;
     }
 
     /// Adds a byte to the field.
     pub(crate) fn add(&mut self, byte: u8) -> Result<(), AllocError>
         ensures fields { self.new.fields ≡ self.old.fields }
         ensures field { OnOk result (self.new.field ≡ self.old.field ++ byte ∷ []) }
+        ensures size { size_of self.new ≤ size_of self.old + 1 }
     {
         self.bytes.push(byte)?;
         Ok(())
     }
 
+    /// Adds bytes to the field.
+    pub(crate) fn extend(&mut self, bytes: &[u8]) -> Result<(), AllocError>
+        ensures fields { self.new.fields ≡ self.old.fields }
+        ensures field { OnOk result (self.new.field ≡ self.old.field ++ bytes.now) }
+        ensures size { size_of self.new ≤ size_of self.old + length bytes.now }
+        ensures err { OnErr result (size_of self.new ≡ size_of self.old) }
+    {
+        self.bytes.extend_from_slice(bytes)?;
+        Ok(())
+    }
+
     /// Ends the field.
     pub(crate) fn end_field(&mut self) -> Result<(), AllocError>
+        requires { size_of self.old < 2 ^ 32 }
         ensures fields { OnOk result (self.new.fields ≡ self.old.fields ++ self.old.field ∷ []) }
         ensures field { OnOk result (self.new.field ≡ []) }
-        ensures err { OnErr result (self.new.fields ≡ self.old.fields) }
+        ensures size { size_of self.new ≤ size_of self.old + 1 }
     {
-        self.ends.push(self.bytes.len())?;
+        self.ends.push(self.bytes.len() as u32)?;
         self.start = self.bytes.len();
         Ok(())
     }
 
-    /// The fields, where no byte follows them.
-    pub(crate) fn into_fields(self) -> Fields
-        requires ended { self.field ≡ [] }
-        requires few { length self.fields < 2 ^ 32 }
-        ensures { result ≡ self.fields }
+    /// Ends the field with these bytes, hands out all fields in buffers of their size, and drops them here.
+    pub(crate) fn take_fields(&mut self, alloc: Global, last: &[u8]) -> Result<Fields, AllocError>
+        requires { size_of self.old + length last.now + 1 < 2 ^ 32 }
+        ensures ok { IfOk result
+            (λ fields. fields ≡ self.old.fields ++ (self.old.field ++ last.now) ∷ []) }
+        ensures fields { self.new.fields ≡ [] }
+        ensures field { self.new.field ≡ [] }
     {
-        let Draft { bytes, ends, .. } = self;
-        Fields::from_parts(bytes, ends)
+        let fields = self.end_record(alloc, last);
+        self.clear();
+        fields
     }
-}
 
-/// No byte, with room for so many where there is memory for it.
-fn empty_bytes(alloc: Global, room: usize) -> Vec<u8>
-    ensures { result.items ≡ [] }
-{
-    match Vec::with_capacity(alloc, room) {
-        Ok(bytes) => bytes,
-        Err(_) => Vec::new(alloc),
+    /// Ends the field with these bytes, and copies all fields.
+    fn end_record(&mut self, alloc: Global, last: &[u8]) -> Result<Fields, AllocError>
+        requires { size_of self.old + length last.now + 1 < 2 ^ 32 }
+        ensures { IfOk result
+            (λ fields. fields ≡ self.old.fields ++ (self.old.field ++ last.now) ∷ []) }
+    {
+        self.extend(last)?;
+        self.end_field()?;
+        self.copied(alloc)
     }
-}
 
-/// No end, with room for so many where there is memory for it.
-fn empty_ends(alloc: Global, room: usize) -> Vec<usize>
-    ensures { result.items ≡ [] }
-{
-    match Vec::with_capacity(alloc, room) {
-        Ok(ends) => ends,
-        Err(_) => Vec::new(alloc),
+    /// A copy of the fields, where no byte follows them.
+    fn copied(&self, alloc: Global) -> Result<Fields, AllocError>
+        requires ended { self.now.field ≡ [] }
+        requires few { size_of self.now < 2 ^ 32 }
+        ensures { IfOk result (λ fields. fields ≡ self.now.fields) }
+    {
+        let bytes = Vec::from_slice(alloc, self.bytes.as_slice())?;
+        let ends = Vec::from_slice(alloc, self.ends.as_slice())?;
+        Ok(Fields::from_parts(bytes, ends))
     }
 }

@@ -1,3 +1,6 @@
+//! Why a text is refused.
+
+use std::alloc::AllocError;
 use thiserror::Error;
 
 /// Why a cutter refuses a text.
@@ -15,4 +18,15 @@ pub enum CutFault {
     /// There is no memory left.
     #[error("out of memory")]
     Memory,
+}
+
+impl From<AllocError> for CutFault {
+    ghost use Rattle.std.specs.Prelude.{◌≡◌};
+    ghost use Rattle.record_cut.specs.declared.fault.CutFault.TheVariants.{Memory};
+
+    ghost from_gives = { λ _ fault. fault ≡ Memory };
+
+    fn from(_: AllocError) -> CutFault {
+        CutFault::Memory
+    }
 }

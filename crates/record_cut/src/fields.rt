@@ -1,12 +1,15 @@
+//! Lists of byte fields.
+
 use crate::split::{piece_at, push_piece};
 use std::alloc::{AllocError, Global};
 use std::marker::Model;
 
-/// A list of byte fields, as of a record. They stand in one buffer, with the place where each ends.
+/// A list of byte fields, as of a record, of less than 2^32 bytes in all. They stand in one buffer, with the
+/// place where each ends.
 #[derive(Drop)]
 pub struct Fields {
     bytes: Vec<u8>,
-    ends: Vec<usize>,
+    ends: Vec<u32>,
 }
 
 impl Model for Fields {
@@ -35,7 +38,7 @@ impl Fields {
     }
 
     /// The fields that end at these places of the bytes, where the last ends with the bytes.
-    pub(crate) fn from_parts(bytes: Vec<u8>, ends: Vec<usize>) -> Fields
+    pub(crate) fn from_parts(bytes: Vec<u8>, ends: Vec<u32>) -> Fields
         requires rises { Rises 0 ends.items (length bytes.items) }
         requires few { length ends.items < 2 ^ 32 }
         ensures { result ≡ pieces bytes.items 0 ends.items }
@@ -43,7 +46,8 @@ impl Fields {
         Fields { bytes, ends }
     }
 
-    /// Adds a copy of the field at the end. Where memory runs out the list stays as it was.
+    /// Adds a copy of the field at the end. Where memory runs out the list stays as it was. A list whose
+    /// fields would come to 2^32 bytes has no memory for them either.
     pub fn push(&mut self, field: &[u8]) -> Result<(), AllocError>
         requires { length self.old < 2 ^ 32 - 1 }
         ensures ok { OnOk result (self.new ≡ self.old ++ field.now ∷ []) }
@@ -76,5 +80,23 @@ impl Fields {
         ensures { result.now ≡ slice_index_or self.now i result.now }
     {
         piece_at(&self.bytes, &self.ends, i as usize)
+    }
+
+    /// How many bytes the fields have.
+    pub(crate) fn size(&self) -> usize {
+        self.bytes.len()
+    }
+}
+
+impl Clone for Fields {
+    ghost use Rattle.std.specs.Prelude.{◌≡◌};
+
+    ghost is_clone = { λ fields copy. copy ≡ fields };
+
+    fn clone(&self) -> Result<Fields, AllocError> {
+        let alloc = *self.bytes.allocator();
+        let bytes = Vec::from_slice(alloc, self.bytes.as_slice())?;
+        let ends = Vec::from_slice(alloc, self.ends.as_slice())?;
+        Ok(Fields { bytes, ends })
     }
 }

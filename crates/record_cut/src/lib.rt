@@ -9,14 +9,18 @@ mod cutter;
 mod draft;
 mod fault;
 mod fields;
+mod laws;
 mod phase;
 mod place;
 mod row;
 mod split;
+mod taken;
 #[cfg(test)]
 mod tests;
 
-pub use cutter::Cutter;
+pub use cutter::{Cutter, LONGEST};
 pub use fault::CutFault;
 pub use fields::Fields;
-pub use row::{row_text, row_texts_are_cut_back};
+pub use laws::{faults_stay, records_stay, row_texts_are_cut_back};
+pub use row::{end_row, push_first_field, push_next_field, push_row, row_text};
+pub use taken::Taken;

@@ -1,3 +1,5 @@
+//! Where in a text a cutter stands, and what a byte does there.
+
 use crate::fault::CutFault;
 
 /// Where in a record the next byte stands.
@@ -43,6 +45,15 @@ pub(crate) enum Move {
     To(Place),
     /// To the end of the record.
     EndRecord,
+}
+
+/// The bytes at a place that all belong to the field there.
+#[derive(Clone, Copy)]
+pub(crate) struct Run {
+    /// How many.
+    pub(crate) len: usize,
+    /// Where the next byte stands.
+    pub(crate) next: Place,
 }
 
 /// What the end of a text leaves.

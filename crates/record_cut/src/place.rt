@@ -1,13 +1,15 @@
-ghost use Rattle.std.specs.Prelude.{◌+◌, ◌≤◌, ℕ, length, IsTrue};
-ghost use Rattle.record_cut.specs.Bytes.{is_separator};
-ghost use Rattle.record_cut.specs.Drafted.{Drafted};
-ghost use Rattle.record_cut.specs.Reading.{FitsPlace, Fits};
-ghost use Rattle.record_cut.specs.Moves.{Keeps, EndsField, Moves, Opens, Leaves};
+//! What a byte does at each place of a record.
 
-use crate::bytes::{CARRIAGE_RETURN, LINE_FEED, MARK, QUOTE};
+ghost use Rattle.std.specs.Prelude.{◌+◌, ◌<◌, ◌≤◌, ◌^◌, ℕ, length, take, IsTrue, IfSome};
+ghost use Rattle.record_cut.specs.Bytes.{is_separator};
+ghost use Rattle.record_cut.specs.Drafted.{Drafted, size_of};
+ghost use Rattle.record_cut.specs.Resumed.{FitsPlace, Fits};
+ghost use Rattle.record_cut.specs.Moves.{Keeps, EndsField, Moves, Opens, IsRun, RunsTo, Leaves};
+
+use crate::bytes::{CARRIAGE_RETURN, LINE_FEED, MARK, QUOTE, before_quote, before_special};
 use crate::draft::Draft;
 use crate::fault::CutFault;
-use crate::phase::{Ending, Move, Opening, Phase, Place};
+use crate::phase::{Ending, Move, Opening, Phase, Place, Run};
 
 /// What the byte is to be taken for after what has been read of the record.
 pub(crate) fn opening(phase: Phase, byte: u8) -> Opening
@@ -68,11 +70,36 @@ fn ending_at(place: Place) -> Ending
     }
 }
 
+/// The bytes that come first at this place and all belong to the field, if there are any.
+pub(crate) fn run_at(place: Place, sep: u8, bytes: &[u8]) -> Option<Run>
+    requires { IsTrue (is_separator sep) }
+    ensures within { IfSome result (λ run. run.len ≤ length bytes.now) }
+    ensures runs { IfSome result (λ run. RunsTo sep place (take run.len bytes.now) run.next) }
+{
+    match place {
+        Place::Field | Place::Plain => run_of(before_special(bytes, sep), Place::Plain),
+        Place::Quoted => run_of(before_quote(bytes), Place::Quoted),
+        Place::PlainCr | Place::QuoteInQuoted | Place::ClosedCr => None,
+    }
+}
+
+/// A run of so many bytes, if these are any.
+fn run_of(len: usize, next: Place) -> Option<Run>
+    ensures { IfSome result (IsRun len next) }
+{
+    if len > 0 {
+        Some(Run { len, next })
+    } else {
+        None
+    }
+}
+
 /// Reads the byte of a record at this place.
 pub(crate) fn read(draft: &mut Draft, sep: u8, place: Place, byte: u8) -> Result<Move, CutFault>
-    requires { IsTrue (is_separator sep) }
+    requires sep { IsTrue (is_separator sep) }
+    requires small { size_of draft.old < 2 ^ 31 }
     ensures moves { FitsPlace place draft.old → Moves sep place draft.old byte result draft.new }
-    ensures few { length draft.new.fields ≤ length draft.old.fields + 1 }
+    ensures size { size_of draft.new ≤ size_of draft.old + 2 }
 {
     match place {
         Place::Plain => in_plain(draft, sep, byte),
@@ -87,9 +114,10 @@ pub(crate) fn read(draft: &mut Draft, sep: u8, place: Place, byte: u8) -> Result
 
 /// At the beginning of a field.
 fn at_field(draft: &mut Draft, sep: u8, byte: u8) -> Result<Move, CutFault>
-    requires { IsTrue (is_separator sep) }
+    requires sep { IsTrue (is_separator sep) }
+    requires small { size_of draft.old < 2 ^ 32 }
     ensures moves { FitsPlace Place.Field draft.old → Moves sep Place.Field draft.old byte result draft.new }
-    ensures few { length draft.new.fields ≤ length draft.old.fields + 1 }
+    ensures size { size_of draft.new ≤ size_of draft.old + 1 }
 {
     if byte == QUOTE {
         Ok(Move::To(Place::Quoted))
@@ -100,9 +128,10 @@ fn at_field(draft: &mut Draft, sep: u8, byte: u8) -> Result<Move, CutFault>
 
 /// In an unquoted field.
 fn in_plain(draft: &mut Draft, sep: u8, byte: u8) -> Result<Move, CutFault>
-    requires { IsTrue (is_separator sep) }
+    requires sep { IsTrue (is_separator sep) }
+    requires small { size_of draft.old < 2 ^ 32 }
     ensures moves { Moves sep Place.Plain draft.old byte result draft.new }
-    ensures few { length draft.new.fields ≤ length draft.old.fields + 1 }
+    ensures size { size_of draft.new ≤ size_of draft.old + 1 }
 {
     if byte == sep {
         return end_field(draft);
@@ -117,23 +146,22 @@ fn in_plain(draft: &mut Draft, sep: u8, byte: u8) -> Result<Move, CutFault>
 
 /// In an unquoted field, after a carriage return.
 fn after_plain_cr(draft: &mut Draft, sep: u8, byte: u8) -> Result<Move, CutFault>
-    requires { IsTrue (is_separator sep) }
+    requires sep { IsTrue (is_separator sep) }
+    requires small { size_of draft.old < 2 ^ 31 }
     ensures moves { Moves sep Place.PlainCr draft.old byte result draft.new }
-    ensures few { length draft.new.fields ≤ length draft.old.fields + 1 }
+    ensures size { size_of draft.new ≤ size_of draft.old + 2 }
 {
     if byte == LINE_FEED {
         return Ok(Move::EndRecord);
     }
-    match draft.add(CARRIAGE_RETURN) {
-        Ok(()) => in_plain(draft, sep, byte),
-        Err(_) => Err(CutFault::Memory),
-    }
+    draft.add(CARRIAGE_RETURN)?;
+    in_plain(draft, sep, byte)
 }
 
 /// In a quoted field.
 fn in_quotes(draft: &mut Draft, byte: u8) -> Result<Move, CutFault>
     ensures moves { (sep : ℕ) → Moves sep Place.Quoted draft.old byte result draft.new }
-    ensures few { length draft.new.fields ≤ length draft.old.fields + 1 }
+    ensures size { size_of draft.new ≤ size_of draft.old + 1 }
 {
     if byte == QUOTE {
         Ok(Move::To(Place::QuoteInQuoted))
@@ -144,9 +172,10 @@ fn in_quotes(draft: &mut Draft, byte: u8) -> Result<Move, CutFault>
 
 /// In a quoted field, after a quote.
 fn after_quote(draft: &mut Draft, sep: u8, byte: u8) -> Result<Move, CutFault>
-    requires { IsTrue (is_separator sep) }
+    requires sep { IsTrue (is_separator sep) }
+    requires small { size_of draft.old < 2 ^ 32 }
     ensures moves { Moves sep Place.QuoteInQuoted draft.old byte result draft.new }
-    ensures few { length draft.new.fields ≤ length draft.old.fields + 1 }
+    ensures size { size_of draft.new ≤ size_of draft.old + 1 }
 {
     if byte == sep {
         return end_field(draft);
@@ -162,21 +191,18 @@ fn after_quote(draft: &mut Draft, sep: u8, byte: u8) -> Result<Move, CutFault>
 /// Adds the byte to the field, after which the next stands at the place.
 fn keep(draft: &mut Draft, byte: u8, place: Place) -> Result<Move, CutFault>
     ensures kept { Keeps place draft.old byte result draft.new }
-    ensures few { length draft.new.fields ≤ length draft.old.fields }
+    ensures size { size_of draft.new ≤ size_of draft.old + 1 }
 {
-    match draft.add(byte) {
-        Ok(()) => Ok(Move::To(place)),
-        Err(_) => Err(CutFault::Memory),
-    }
+    draft.add(byte)?;
+    Ok(Move::To(place))
 }
 
 /// Ends the field.
 fn end_field(draft: &mut Draft) -> Result<Move, CutFault>
+    requires { size_of draft.old < 2 ^ 32 }
     ensures ended { EndsField draft.old result draft.new }
-    ensures few { length draft.new.fields ≤ length draft.old.fields + 1 }
+    ensures size { size_of draft.new ≤ size_of draft.old + 1 }
 {
-    match draft.end_field() {
-        Ok(()) => Ok(Move::To(Place::Field)),
-        Err(_) => Err(CutFault::Memory),
-    }
+    draft.end_field()?;
+    Ok(Move::To(Place::Field))
 }

@@ -1,7 +1,12 @@
+pub mod AnAnswer
+pub mod Built
+pub mod Checks
 pub mod Continues
 pub mod Facts
+pub mod ByKind
 pub mod Known
-pub mod Names
+pub mod NoMemory
+pub mod Numbered
 pub mod OneFile
 pub mod OneRule
 pub mod Pushed

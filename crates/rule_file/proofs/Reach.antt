@@ -5,8 +5,6 @@ use Rattle.std.specs.List.{AllZip, AllByRecursion}
 use Rattle.std.proofs.lemmas.List.Elements.{All-from_recursion}
 use Rattle.toml.specs.Data.{Members}
 use Rattle.fix_point.specs.declared.rate.Rate.{Rate}
-use Rattle.time_text.specs.declared.form.TimeForm.{TimeForm}
-use Rattle.time_text.specs.declared.form.TimeForm.TheVariants as form
 use Rattle.rule_keys.specs.declared.key.TableKind.{TableKind}
 use Rattle.rule_keys.specs.declared.key.TableKind.TheVariants.{Speed, Drift}
 use Rattle.rule_keys.specs.declared.read.Scale.{Scale}
@@ -20,9 +18,11 @@ use Rattle.rule_file.specs.declared.rules.SpeedRule.{SpeedRule}
 use Rattle.rule_file.specs.declared.rules.DriftRule.{DriftRule}
 use Rattle.rule_file.specs.Document.{ReadsRules}
 use Rattle.rule_file.specs.Draft.{AreDraftOf}
-use Rattle.rule_file.specs.Limits.{IsInReach, AreInReach}
-use Rattle.rule_file.specs.Meaning.{Entries, of_kind, form_number, form_at, scale_of, IsFormatOf, IsSpeed, IsDrift}
-use Rattle.rule_file.proofs.Names.{reads_passes}
+use Rattle.fix_point.specs.Rates.{IsInReach}
+use Rattle.rule_file.specs.Limits.{AreInReach}
+use Rattle.rule_file.specs.Meaning.{Entries, of_kind, scale_of, IsFormatOf, IsSpeed, IsDrift}
+use Rattle.rule_file.proofs.Checks.{reads_passes}
+use Rattle.rule_file.proofs.ByKind.{of_speeds, of_drifts}
 
 -- the entries pass the checks of the kind
 abbrev pub PassesAll : ℕ → TableKind → Entries → Type 0
@@ -38,16 +38,6 @@ rules_pass scale number [] (entry ∷ read) reads = absurd (cc reads)
 rules_pass scale number (rule ∷ tables) [] reads = absurd reads
 rules_pass scale number (rule ∷ tables) (entry ∷ read) reads =
     (rw reads.0 (reads_passes scale rule.0 rule.1 entry.1 reads.1), rules_pass scale (number + 1) tables read reads.2)
-
-pub speeds_pass : (d : ℕ) (read : List (TableKind × Entries)) → AllPass d read → AllByRecursion (PassesAll d Speed) (of_kind Speed read)
-speeds_pass d [] all = tt
-speeds_pass d ((Speed, entries) ∷ read) all = (all.0, speeds_pass d read all.1)
-speeds_pass d ((_, entries) ∷ read) all = speeds_pass d read all.1
-
-pub drifts_pass : (d : ℕ) (read : List (TableKind × Entries)) → AllPass d read → AllByRecursion (PassesAll d Drift) (of_kind Drift read)
-drifts_pass d [] all = tt
-drifts_pass d ((Drift, entries) ∷ read) all = (all.0, drifts_pass d read all.1)
-drifts_pass d ((_, entries) ∷ read) all = drifts_pass d read all.1
 
 pub within_reach : (d : ℕ) (z per window span : ℤ) (rate : Rate) → z ≡ rate.millionths → per ≡ pos rate.per → window ≡ span
     → Keys.IsInReach d z per window → IsInReach d rate span
@@ -79,7 +69,7 @@ speeds_reach scale d tables read draft same reads kept =
     rw (← same)
     (All-from_recursion (λ (rule : SpeedRule). AreInReach scale.decimals rule.min rule.max rule.window) draft.speeds
     (carried IsSpeed (PassesAll scale.decimals Speed) (λ (rule : SpeedRule). AreInReach scale.decimals rule.min rule.max rule.window)
-    (speed_reaches scale.decimals) (of_kind Speed read) draft.speeds kept.speeds (speeds_pass scale.decimals read (rules_pass scale 1 tables read reads))))
+    (speed_reaches scale.decimals) (of_kind Speed read) draft.speeds kept.speeds (of_speeds (PassesAll scale.decimals) read (rules_pass scale 1 tables read reads))))
 
 pub drifts_reach : (scale : Scale) (d : ℕ) (tables : List (TableKind × Members)) (read : List (TableKind × Entries)) (draft : Draft)
     → scale.decimals ≡ d → ReadsRules scale 1 tables (Ok read) → AreDraftOf read draft → All (λ rule. AreInReach d rule.min rule.max rule.window) draft.drifts
@@ -87,20 +77,12 @@ drifts_reach scale d tables read draft same reads kept =
     rw (← same)
     (All-from_recursion (λ (rule : DriftRule). AreInReach scale.decimals rule.min rule.max rule.window) draft.drifts
     (carried IsDrift (PassesAll scale.decimals Drift) (λ (rule : DriftRule). AreInReach scale.decimals rule.min rule.max rule.window)
-    (drift_reaches scale.decimals) (of_kind Drift read) draft.drifts kept.drifts (drifts_pass scale.decimals read (rules_pass scale 1 tables read reads))))
+    (drift_reaches scale.decimals) (of_kind Drift read) draft.drifts kept.drifts (of_drifts (PassesAll scale.decimals) read (rules_pass scale 1 tables read reads))))
 
 -- what the rules are counted in
-pub form_back : (f : TimeForm) → form_at (form_number f) ≡ f
-form_back form.Sec = refl
-form_back form.Milli = refl
-form_back form.Micro = refl
-form_back form.Nano = refl
-form_back form.Instant = refl
-form_back form.Civil = refl
-
 pub same_scale : (entries : Entries) (format : Format) (scale : Scale) → IsFormatOf entries format → scale.decimals ≡ format.decimals → scale.form ≡ format.form
     → scale ≡ scale_of entries
-same_scale entries format scale is decimals form = rw (is.decimals, is.form, form_back format.form, ← decimals, ← form)
+same_scale entries format scale is decimals form = rw (is.decimals, is.form, ← decimals, ← form)
 
 pub reads_scaled : (scale other : Scale) (tables : List (TableKind × Members)) (answer : Result (List (TableKind × Entries)) RuleFault)
     → scale ≡ other → ReadsRules scale 1 tables answer → ReadsRules other 1 tables answer

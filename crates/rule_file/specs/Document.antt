@@ -10,6 +10,7 @@ use Rattle.rule_keys.specs.declared.read.Scale.{Scale}
 use Rattle.rule_keys.specs.Table.{HasOnly, Reads}
 use Rattle.rule_file.specs.declared.fault.RuleFault.{RuleFault}
 use Rattle.rule_file.specs.declared.rules.Rules.{Rules}
+use Rattle.rule_file.specs.declared.rules.TheConstants.{MOST_RULES}
 use Rattle.rule_file.specs.Fault.{cause_of_key, of_the_file, of_rule}
 use Rattle.rule_file.specs.Meaning.{Entries, scale_of, IsFormatOf, AreRulesOf}
 
@@ -75,7 +76,7 @@ ReadsAll format tables (Err fault) = ReadsRules (scale_of format) 1 tables (Err 
 abbrev pub ReadsTables : Entries → Option (List (TableKind × Members)) → Result Rules RuleFault → Type 0
 ReadsTables format None answer = answer ≡ Err (of_the_file WrongKind)
 ReadsTables format (Some tables) answer =
-    ((1000 < length tables) × (answer ≡ Err (of_the_file TooMany))) ⊎ ((length tables ≤ 1000) × ReadsAll format tables answer)
+    ((MOST_RULES < length tables) × (answer ≡ Err (of_the_file TooMany))) ⊎ ((length tables ≤ MOST_RULES) × ReadsAll format tables answer)
 
 -- the format, which speaks of no values and times, and then the rules
 abbrev pub ReadsFormat : Members → Members → Result Rules RuleFault → Type 0

@@ -16,17 +16,11 @@ cause_of_key key.OutOfLimit = cause.OutOfLimit
 cause_of_key key.Order = cause.Order
 cause_of_key key.ReachTooLarge = cause.ReachTooLarge
 cause_of_key key.SameSensor = cause.SameSensor
-cause_of_key key.Memory = cause.Memory
 
 -- a fault of no numbered rule
 abbrev pub of_the_file : RuleCause → RuleFault
 of_the_file cause = record { cause = cause; rule = 0 }
 
--- the rule that is to blame where the rule of this number is refused; want of memory concerns no rule
-abbrev pub blamed : ℕ → KeyCause → ℕ
-blamed number key.Memory = 0
-blamed number _ = number
-
 -- the fault of a file whose rule of this number is refused
 abbrev pub of_rule : ℕ → KeyCause → RuleFault
-of_rule number cause = record { cause = cause_of_key cause; rule = blamed number cause }
+of_rule number cause = record { cause = cause_of_key cause; rule = number }

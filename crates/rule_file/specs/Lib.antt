@@ -1,3 +1,4 @@
+pub mod Answered
 pub mod Count
 pub mod Document
 pub mod Draft
@@ -5,5 +6,7 @@ pub mod Fault
 pub mod File
 pub mod Limits
 pub mod Meaning
+pub mod Numbers
+pub mod Single
 pub mod Tables
 pub mod Toml

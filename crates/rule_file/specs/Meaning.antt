@@ -1,17 +1,14 @@
 -- To be believed: what the entries of a table mean as a rule.
-use Rattle.std.specs.Prelude.{◌≡◌, ℕ, zero, suc, pos, ◌==◌, List, map, filter, Some, unsigned_abs}
+use Rattle.std.specs.Prelude.{◌≡◌, ℕ, pos, ◌==◌, List, map, filter, Some, unsigned_abs, unwrap_or}
 use Rattle.std.specs.List.{AllZip}
 use Rattle.fix_point.specs.declared.rate.Rate.{Rate}
-use Rattle.fix_point.specs.declared.scale.Extra.{Extra}
-use Rattle.fix_point.specs.declared.scale.Extra.TheVariants as extra
-use Rattle.time_text.specs.declared.form.TimeForm.{TimeForm}
-use Rattle.time_text.specs.declared.form.TimeForm.TheVariants as form
+use Rattle.time_text.specs.declared.form.TimeForm.TheVariants.{Sec}
 use Rattle.rule_keys.specs.declared.key.KeyName.{KeyName}
-use Rattle.rule_keys.specs.declared.key.KeyName.TheVariants.{Decimals, Time, Form, Separator, Extra as ExtraKey, Hold, Sensor, Min, Max, Per, Window, Most, Over, From, To, Weight, First, Second}
+use Rattle.rule_keys.specs.declared.key.KeyName.TheVariants.{Decimals, Time, Form, Separator, Extra, Hold, Sensor, Min, Max, Per, Window, Most, Over, From, To, Weight, First, Second, Price}
 use Rattle.rule_keys.specs.declared.key.TableKind.{TableKind}
 use Rattle.rule_keys.specs.declared.key.TableKind.TheVariants as table
 use Rattle.rule_keys.specs.declared.read.Scale.{Scale}
-use Rattle.rule_keys.specs.Entries.{Meaning, number_at, name_at}
+use Rattle.rule_keys.specs.Entries.{Meaning, number_at, name_at, form_at, separator_at, extra_at}
 use Rattle.rule_file.specs.declared.rules.Format.{Format}
 use Rattle.rule_file.specs.declared.rules.SpeedRule.{SpeedRule}
 use Rattle.rule_file.specs.declared.rules.SwingRule.{SwingRule}
@@ -26,43 +23,16 @@ use Rattle.rule_file.specs.declared.rules.Rules.{Rules}
 abbrev pub Entries : Type 0
 Entries = List (KeyName × Meaning)
 
--- the forms of time, the separators and the two ways with extra decimals, by their places in the lists of words
-abbrev pub form_number : TimeForm → ℕ
-form_number form.Sec = 0
-form_number form.Milli = 1
-form_number form.Micro = 2
-form_number form.Nano = 3
-form_number form.Instant = 4
-form_number form.Civil = 5
-
-abbrev pub form_at : ℕ → TimeForm
-form_at zero = form.Sec
-form_at (suc zero) = form.Milli
-form_at (suc (suc zero)) = form.Micro
-form_at (suc (suc (suc zero))) = form.Nano
-form_at (suc (suc (suc (suc zero)))) = form.Instant
-form_at (suc (suc (suc (suc (suc n))))) = form.Civil
-
-abbrev pub separator_at : ℕ → ℕ
-separator_at zero = 44
-separator_at (suc zero) = 59
-separator_at (suc (suc zero)) = 9
-separator_at (suc (suc (suc n))) = 124
-
-abbrev pub extra_number : Extra → ℕ
-extra_number extra.Refuse = 0
-extra_number extra.Round = 1
-
 -- the values and times in the rules are counted as the format says
 abbrev pub scale_of : Entries → Scale
-scale_of format = record { decimals = unsigned_abs (number_at Decimals format); form = form_at (unsigned_abs (number_at Form format)) }
+scale_of format = record { decimals = unsigned_abs (number_at Decimals format); form = unwrap_or (form_at Form format) Sec }
 
 pub record IsFormatOf (entries : Entries) (read : Format) : Type 0 where
   pub decimals : number_at Decimals entries ≡ pos read.decimals
   pub time : name_at Time entries ≡ read.time
-  pub form : number_at Form entries ≡ pos (form_number read.form)
-  pub separator : separator_at (unsigned_abs (number_at Separator entries)) ≡ read.separator
-  pub extra : number_at ExtraKey entries ≡ pos (extra_number read.extra)
+  pub form : form_at Form entries ≡ Some read.form
+  pub separator : separator_at Separator entries ≡ Some read.separator
+  pub extra : extra_at Extra entries ≡ Some read.extra
   pub hold : number_at Hold entries ≡ pos read.hold
 
 -- the rate at a key, for each `per` seconds
@@ -74,11 +44,13 @@ pub record IsSpeed (entries : Entries) (rule : SpeedRule) : Type 0 where
   pub min : IsRateAt Min entries rule.min
   pub max : IsRateAt Max entries rule.max
   pub window : number_at Window entries ≡ rule.window
+  pub price : number_at Price entries ≡ pos rule.price
 
 pub record IsSwing (entries : Entries) (rule : SwingRule) : Type 0 where
   pub sensor : name_at Sensor entries ≡ Some rule.sensor
   pub most : number_at Most entries ≡ rule.most
   pub window : number_at Window entries ≡ rule.window
+  pub price : number_at Price entries ≡ pos rule.price
 
 pub record IsDrift (entries : Entries) (rule : DriftRule) : Type 0 where
   pub sensor : name_at Sensor entries ≡ Some rule.sensor
@@ -86,6 +58,7 @@ pub record IsDrift (entries : Entries) (rule : DriftRule) : Type 0 where
   pub max : IsRateAt Max entries rule.max
   pub over : number_at Over entries ≡ rule.over
   pub window : number_at Window entries ≡ rule.window
+  pub price : number_at Price entries ≡ pos rule.price
 
 pub record IsRange (entries : Entries) (rule : RangeRule) : Type 0 where
   pub sensor : name_at Sensor entries ≡ Some rule.sensor
@@ -93,6 +66,7 @@ pub record IsRange (entries : Entries) (rule : RangeRule) : Type 0 where
   pub max : number_at Max entries ≡ rule.max
   pub from : number_at From entries ≡ rule.from
   pub to : number_at To entries ≡ rule.to
+  pub price : number_at Price entries ≡ pos rule.price
 
 pub record IsTrust (entries : Entries) (rule : TrustRule) : Type 0 where
   pub sensor : name_at Sensor entries ≡ Some rule.sensor
@@ -110,6 +84,7 @@ pub record IsBetween (entries : Entries) (rule : BetweenRule) : Type 0 where
   pub second : name_at Second entries ≡ Some rule.second
   pub min : number_at Min entries ≡ rule.min
   pub max : number_at Max entries ≡ rule.max
+  pub price : number_at Price entries ≡ pos rule.price
 
 abbrev pub kind_number : TableKind → ℕ
 kind_number table.Format = 0

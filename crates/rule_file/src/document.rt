@@ -11,18 +11,15 @@ ghost use Rattle.rule_file.specs.Tables.{seen};
 use crate::each::read_each;
 use crate::fault::{RuleCause, RuleFault};
 use crate::format::{format_from, scale_of};
-use crate::rules::Rules;
+use crate::rules::{MOST_RULES, Rules};
 use crate::tables::{RuleTable, has_known_keys, key_of, rule_tables};
 use rule_keys::{Entries, Scale, TableKind, read_table};
 use std::alloc::Global;
 use time_text::TimeForm;
 use toml::Table;
 
-/// The greatest number of rules.
-const MOST_RULES: usize = 1000;
-
 /// What the format is read with, as it has no values and times of its own.
-const NO_SCALE: Scale = Scale {
+pub(crate) const NO_SCALE: Scale = Scale {
     decimals: 0,
     form: TimeForm::Sec,
 };
@@ -72,7 +69,7 @@ fn numbered_rules(
     tables: &[RuleTable<'_>],
 ) -> Result<Rules, RuleFault>
     requires fit { Fit (keys_of TableKind.Format) format.now }
-    requires few { length tables.now ≤ 1000 }
+    requires few { length tables.now ≤ MOST_RULES }
     ensures { UnlessMemory (of_the_file RuleCause.Memory) (ReadsAll format.now (map seen tables.now)) result }
 {
     let Ok(format) = format_from(alloc, format) else {

@@ -4,6 +4,7 @@ ghost use Rattle.toml.specs.View.{table_view};
 ghost use Rattle.rule_keys.specs.declared.cause.KeyCause.{KeyCause};
 ghost use Rattle.rule_keys.specs.declared.key.TableKind.{TableKind};
 ghost use Rattle.rule_keys.specs.Table.{Reads};
+ghost use Rattle.rule_file.specs.declared.rules.TheConstants.{MOST_RULES};
 ghost use Rattle.rule_file.specs.Document.{ReadsRules};
 ghost use Rattle.rule_file.specs.Draft.{AddsRule, AreDraftOf, count_in};
 ghost use Rattle.rule_file.specs.Fault.{of_the_file, of_rule};
@@ -23,9 +24,9 @@ pub(crate) fn read_each(
     tables: &[RuleTable<'_>],
 ) -> Result<Draft, RuleFault>
     requires decimals { scale.decimals ≤ 6 }
-    requires few { length tables.now ≤ 1000 }
+    requires few { length tables.now ≤ MOST_RULES }
     ensures accepted { IfOk result (λ draft. (read : List (TableKind × Entries)) × ReadsRules scale 1 (map seen tables.now) (Ok read) × AreDraftOf read draft) }
-    ensures few { IfOk result (λ draft. count_in draft ≤ 1000) }
+    ensures few { IfOk result (λ draft. count_in draft ≤ MOST_RULES) }
     ensures refused { IfErr result (λ fault. fault ≢ of_the_file RuleCause.Memory → ReadsRules scale 1 (map seen tables.now) (Err fault)) }
 {
     let mut draft = no_rules(alloc);

@@ -1,6 +1,6 @@
 //! Why a rule file is refused, and the rule that is to blame.
 ghost use Rattle.std.specs.Prelude.{◌≡◌};
-ghost use Rattle.rule_file.specs.Fault.{blamed, cause_of_key, of_rule, of_the_file};
+ghost use Rattle.rule_file.specs.Fault.{cause_of_key, of_rule, of_the_file};
 
 use rule_keys::KeyCause;
 use thiserror::Error;
@@ -8,9 +8,6 @@ use thiserror::Error;
 /// Why a rule file is refused.
 #[derive(Clone, Copy, Debug, PartialEq, Eq, Error)]
 pub enum RuleCause {
-    /// The rules are of a kind that the program does not work with so far. No reader answers it.
-    #[error("the rules are of a kind that is not built so far")]
-    NotBuilt,
     /// The bytes are no TOML text.
     #[error("the rules are no TOML text")]
     Syntax,
@@ -63,7 +60,6 @@ impl RuleCause {
             KeyCause::Order => RuleCause::Order,
             KeyCause::ReachTooLarge => RuleCause::ReachTooLarge,
             KeyCause::SameSensor => RuleCause::SameSensor,
-            KeyCause::Memory => RuleCause::Memory,
         }
     }
 }
@@ -86,30 +82,20 @@ impl RuleFault {
         RuleFault { cause, rule: 0 }
     }
 
+    /// The fault of a file of more than 1,048,576 bytes.
+    pub fn too_long() -> RuleFault
+        ensures { result ≡ of_the_file RuleCause.FileTooLong }
+    {
+        RuleFault::of_the_file(RuleCause::FileTooLong)
+    }
+
     /// The fault of a file whose rule of this number is refused.
     pub(crate) fn of_rule(number: u32, cause: KeyCause) -> RuleFault
         ensures { result ≡ of_rule number cause }
     {
         RuleFault {
             cause: RuleCause::of_key(cause),
-            rule: blamed(number, cause),
+            rule: number,
         }
-    }
-}
-
-/// The rule that is to blame where the rule of this number is refused: none where memory ran out.
-fn blamed(number: u32, cause: KeyCause) -> u32
-    ensures { result ≡ blamed number cause }
-{
-    match cause {
-        KeyCause::Memory => 0,
-        KeyCause::UnknownKey
-        | KeyCause::MissingKey
-        | KeyCause::WrongKind
-        | KeyCause::BadNumber
-        | KeyCause::OutOfLimit
-        | KeyCause::Order
-        | KeyCause::ReachTooLarge
-        | KeyCause::SameSensor => number,
     }
 }

@@ -2,12 +2,16 @@
 //! none.
 #![tactic(auto)]
 
+mod answered;
 mod document;
 mod draft;
 mod each;
 mod fault;
 mod format;
 mod name;
+#[cfg(test)]
+mod number_tests;
+mod numbers;
 mod rate;
 mod read;
 mod rules;
@@ -16,10 +20,13 @@ mod tables;
 mod tests;
 mod typed;
 
+pub use answered::an_answer;
 pub use fault::{RuleCause, RuleFault};
+pub use numbers::{NamedSensor, RuleAt, rules_are_numbered};
 pub use read::{LONGEST, one_answer, read_rules};
 pub use rules::{
-    BetweenList, BetweenRule, DriftList, DriftRule, Format, Name, RangeList, RangeRule, Rules,
-    SpeedList, SpeedRule, SwingList, SwingRule, TrustList, TrustRule, WeightList, WeightRule,
+    BetweenList, BetweenRule, DriftList, DriftRule, Format, MOST_RULES, Name, RangeList, RangeRule,
+    Rules, SpeedList, SpeedRule, SwingList, SwingRule, TrustList, TrustRule, WeightList,
+    WeightRule,
 };
 pub use tables::key_of;

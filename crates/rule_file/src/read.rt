@@ -26,6 +26,7 @@ pub const LONGEST: usize = 1_048_576;
 pub fn read_rules(alloc: Global, bytes: &[u8]) -> Result<Rules, RuleFault>
     ensures accepted { IfOk result (Spells bytes.now) }
     ensures refused { IfErr result (λ fault. fault ≢ of_the_file RuleCause.Memory → Refuses bytes.now fault) }
+    ensures memory { IfErr result (λ fault. fault.cause ≡ RuleCause.Memory → fault.rule ≡ 0) }
     ensures only { (answer : Result Rules RuleFault) → ReadsFile bytes.now answer →
         UnlessMemory (of_the_file RuleCause.Memory) (λ given. given ≡ answer) result }
 {
@@ -39,7 +40,7 @@ fn file_rules(alloc: Global, bytes: &[u8]) -> Result<Rules, RuleFault>
     ensures { UnlessMemory (of_the_file RuleCause.Memory) (ReadsFile bytes.now) result }
 {
     if bytes.len() > LONGEST {
-        return Err(RuleFault::of_the_file(RuleCause::FileTooLong));
+        return Err(RuleFault::too_long());
     }
     match toml::table_from_slice(alloc, bytes) {
         Ok(file) => document_rules(alloc, &file),

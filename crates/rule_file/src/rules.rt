@@ -1,11 +1,16 @@
 //! The rules of a rule file. Each type keeps its limits.
 ghost use Rattle.std.specs.Prelude.{◌≢◌, ◌≤◌, pos, ◌≤ℤ◌, All};
+ghost use Rattle.rule_keys.specs.declared.limits.TheConstants.{MOST_PRICE, MOST_WEIGHT};
+ghost use Rattle.rule_file.specs.declared.rules.TheConstants.{MOST_RULES};
 ghost use Rattle.rule_file.specs.Limits.{AreRates, IsFormat, IsMoment, IsPeriod, IsSpan, IsUnits, AreInReach};
 ghost use Rattle.rule_file.specs.Count.{count_of};
 
 use fix_point::{Extra, Rate};
 use sequence::Sequence;
 use time_text::TimeForm;
+
+/// The greatest number of rules.
+pub const MOST_RULES: usize = 1_000;
 
 /// The name of a column, as bytes; `read_rules` leaves out the blanks at its ends.
 pub type Name = Sequence<u8>;
@@ -42,8 +47,11 @@ pub struct SpeedRule {
     pub max: Rate,
     /// The window, in ticks: 1 to 10^17.
     pub window: i64,
+    /// What a unit beyond a bound of the rule costs, 1 to 1,000; 0 where the rule has no price.
+    pub price: u32,
     pub ghost rates: { AreRates min max },
     pub ghost span: { IsSpan window },
+    pub ghost price_most: { price ≤ MOST_PRICE },
 }
 
 /// The readings of a sensor no further apart than the window differ by only so much.
@@ -55,9 +63,12 @@ pub struct SwingRule {
     pub most: i64,
     /// The window, in ticks: 1 to 10^17.
     pub window: i64,
+    /// What a unit beyond a bound of the rule costs, 1 to 1,000; 0 where the rule has no price.
+    pub price: u32,
     pub ghost least: { pos 0 ≤ℤ most },
     pub ghost size: { IsUnits most },
     pub ghost span: { IsSpan window },
+    pub ghost price_most: { price ≤ MOST_PRICE },
 }
 
 /// The readings of a sensor change only so fast over times from `over` to `window`.
@@ -73,10 +84,13 @@ pub struct DriftRule {
     pub over: i64,
     /// The longest time that it speaks of, in ticks: at most 10^17.
     pub window: i64,
+    /// What a unit beyond a bound of the rule costs, 1 to 1,000; 0 where the rule has no price.
+    pub price: u32,
     pub ghost rates: { AreRates min max },
     pub ghost least: { pos 1 ≤ℤ over },
     pub ghost ordered: { over ≤ℤ window },
     pub ghost span: { IsSpan window },
+    pub ghost price_most: { price ≤ MOST_PRICE },
 }
 
 /// The readings of a sensor lie within limits, from one time to another.
@@ -92,10 +106,13 @@ pub struct RangeRule {
     pub from: i64,
     /// The last tick that it speaks of, at most 9·10^18 in size.
     pub to: i64,
+    /// What a unit beyond a bound of the rule costs, 1 to 1,000; 0 where the rule has no price.
+    pub price: u32,
     pub ghost least: { IsUnits min },
     pub ghost most: { IsUnits max },
     pub ghost ordered: { min ≤ℤ max },
     pub ghost period: { IsPeriod from to },
+    pub ghost price_most: { price ≤ MOST_PRICE },
 }
 
 /// The readings of a sensor are right, from one time to another.
@@ -122,7 +139,7 @@ pub struct WeightRule {
     /// The last tick that it speaks of, at most 9·10^18 in size.
     pub to: i64,
     pub ghost least: { 1 ≤ weight },
-    pub ghost most: { weight ≤ 1000 },
+    pub ghost most: { weight ≤ MOST_WEIGHT },
     pub ghost period: { IsPeriod from to },
 }
 
@@ -138,10 +155,13 @@ pub struct BetweenRule {
     pub min: i64,
     /// The greatest difference, in units, at most 10^15 in size.
     pub max: i64,
+    /// What a unit beyond a bound of the rule costs, 1 to 1,000; 0 where the rule has no price.
+    pub price: u32,
     pub ghost apart: { first ≢ second },
     pub ghost least: { IsUnits min },
     pub ghost most: { IsUnits max },
     pub ghost ordered: { min ≤ℤ max },
+    pub ghost price_most: { price ≤ MOST_PRICE },
 }
 
 /// Speed rules in the order of the file.
@@ -174,7 +194,7 @@ pub struct Rules {
     pub trusts: TrustList,
     pub weights: WeightList,
     pub betweens: BetweenList,
-    pub ghost few: { count_of speeds swings drifts ranges trusts weights betweens ≤ 1000 },
+    pub ghost few: { count_of speeds swings drifts ranges trusts weights betweens ≤ MOST_RULES },
     pub ghost speed_reach: { All (λ rule. AreInReach format.decimals rule.min rule.max rule.window) speeds },
     pub ghost drift_reach: { All (λ rule. AreInReach format.decimals rule.min rule.max rule.window) drifts },
 }

@@ -14,7 +14,7 @@ use std::alloc::Global;
 use toml::{Table, Value};
 
 /// The kinds of rules, in the order of their numbers.
-const RULE_KINDS: [TableKind; 7] = [
+pub(crate) const RULE_KINDS: [TableKind; 7] = [
     TableKind::Speed,
     TableKind::Swing,
     TableKind::Drift,

@@ -1,3 +1,5 @@
+//! Rule files and what is read from them.
+
 use crate::RuleCause::{
     BadNumber, FileTooLong, MissingKey, Order, OutOfLimit, ReachTooLarge, SameSensor, Syntax,
     TooMany, UnknownKey, WrongKind,
@@ -94,7 +96,7 @@ sensor = \"x\"
 ";
 
 /// Rules of all kinds, in no order of their kinds.
-const MIXED: &str = "[[between]]
+pub(crate) const MIXED: &str = "[[between]]
 first = \"a\"
 second = \"b\"
 min = -1
@@ -154,11 +156,11 @@ fn changed(alloc: Global, text: &str, part: &str, other: &str) -> Result<String,
     }
 }
 
-/// A file of a thousand rules, and then this text.
-fn a_thousand_rules_and(alloc: Global, rest: &str) -> Result<String, AllocError> {
+/// A file of so many tables of this text, and then another text.
+fn file_of(alloc: Global, count: usize, table: &str, rest: &str) -> Result<String, AllocError> {
     let mut text = String::from_str(alloc, "[format]\ndecimals = 0\n")?;
-    for _rule in 0..1000 {
-        text.push_str("[[trust]]\nsensor = \"x\"\n")?;
+    for _rule in 0..count {
+        text.push_str(table)?;
     }
     text.push_str(rest)?;
     Ok(text)
@@ -277,6 +279,13 @@ fn rules_of_a_water_tank(rt: HostRuntime) -> Result<(), Fail> {
 fn rules_of_all_kinds(rt: HostRuntime) -> Result<(), Fail> {
     let rules = read_rules(rt.alloc(), MIXED.as_bytes())?;
     assert_eq!(rt; rules.count(), 8);
+    let format = &rules.format;
+    assert!(rt; format.time.is_none());
+    assert_eq!(rt; (format.decimals, format.form), (1, TimeForm::Sec));
+    assert_eq!(rt;
+        (format.separator, format.extra, format.hold),
+        (b';', Extra::Round, 20_000)
+    );
     let second = (b"c".as_slice(), 0, 1_000_000, 1, 1_000_000_000);
     assert_eq!(rt; speed_at(&rules, 1), Some(second));
     let swing = rules.swings.get(0).map(|rule| (rule.most, rule.window));
@@ -323,6 +332,100 @@ fn rules_are_numbered_kind_by_kind(rt: HostRuntime) -> Result<(), Fail> {
     Ok(())
 }
 
+/// What is looked at once the keys of a rule are read, of each kind.
+#[test]
+fn checks_of_each_kind(rt: HostRuntime) -> Result<(), Fail> {
+    let drift = "min = -2\nmax = \"2\"\nper = 3600\nover = 60\nwindow = 600";
+    let rows = [
+        ("min = 0\nmax = 1", "min = 2\nmax = 1", Order, 1),
+        (drift, "min = 3\nmax = 2\nover = 60\nwindow = 600", Order, 4),
+        (
+            drift,
+            "min = 0\nmax = 1000000000\nover = 1\nwindow = 1000000",
+            ReachTooLarge,
+            4,
+        ),
+        (
+            drift,
+            "min = -1000000000\nmax = 0\nover = 1\nwindow = 1000000",
+            ReachTooLarge,
+            4,
+        ),
+        (
+            "sensor = \"b\"\n[[drift]]",
+            "sensor = \"b\"\nmin = 2\nmax = 1\n[[drift]]",
+            Order,
+            5,
+        ),
+        (
+            "sensor = \"b\"\n[[drift]]",
+            "sensor = \"b\"\nfrom = 2\nto = 1\n[[drift]]",
+            Order,
+            5,
+        ),
+        ("weight = 3", "weight = 3\nfrom = 2\nto = 1", Order, 7),
+        ("min = -1\nmax = 1", "min = 2\nmax = 1", Order, 8),
+        (
+            "second = \"b\"\nmin = -1\nmax = 1",
+            "second = \"a\"\nmin = 2\nmax = 1",
+            Order,
+            8,
+        ),
+    ];
+    for (part, other, cause, rule) in rows {
+        let text = changed(rt.alloc(), MIXED, part, other)?;
+        assert_eq!(rt;
+            fault_of(rt.alloc(), text.as_str()),
+            fault(cause, rule),
+            "{other}"
+        );
+    }
+    Ok(())
+}
+
+/// Each form of time, with a time in it, each separator and each way with extra decimals.
+#[test]
+fn each_word_means_its_value(rt: HostRuntime) -> Result<(), Fail> {
+    let forms = [
+        ("s", TimeForm::Sec, "7", 7_000_000_000),
+        ("ms", TimeForm::Milli, "7", 7_000_000),
+        ("us", TimeForm::Micro, "7", 7_000),
+        ("ns", TimeForm::Nano, "7", 7),
+        (
+            "instant",
+            TimeForm::Instant,
+            "\"1970-01-01T01:00:07+01:00\"",
+            7_000_000_000,
+        ),
+        (
+            "civil",
+            TimeForm::Civil,
+            "\"1970-01-01 00:00:07\"",
+            7_000_000_000,
+        ),
+    ];
+    for (word, form, from, tick) in forms {
+        let text = format!(in rt.alloc();
+            "[format]\ndecimals = 0\nform = \"{word}\"\n[[trust]]\nsensor = \"x\"\nfrom = {from}\n"
+        )?;
+        let rules = read_rules(rt.alloc(), text.as_bytes())?;
+        assert_eq!(rt; rules.format.form, form, "{word}");
+        let trust = (b"x".as_slice(), tick, LAST);
+        assert_eq!(rt; trust_at(&rules, 0), Some(trust), "{word}");
+    }
+    for (word, separator) in [(",", b','), (";", b';'), ("\\t", b'\t'), ("|", b'|')] {
+        let text = format!(in rt.alloc(); "[format]\ndecimals = 0\nseparator = \"{word}\"\n")?;
+        let rules = read_rules(rt.alloc(), text.as_bytes())?;
+        assert_eq!(rt; rules.format.separator, separator, "{word}");
+    }
+    for (word, extra) in [("refuse", Extra::Refuse), ("round", Extra::Round)] {
+        let text = format!(in rt.alloc(); "[format]\ndecimals = 0\nextra = \"{word}\"\n")?;
+        let rules = read_rules(rt.alloc(), text.as_bytes())?;
+        assert_eq!(rt; rules.format.extra, extra, "{word}");
+    }
+    Ok(())
+}
+
 /// A file for each cause: no refusal is told as want of memory.
 #[test]
 fn each_cause_once(rt: HostRuntime) -> Result<(), Fail> {
@@ -349,7 +452,12 @@ fn each_cause_once(rt: HostRuntime) -> Result<(), Fail> {
             "{other}"
         );
     }
-    let many = a_thousand_rules_and(rt.alloc(), "[[range]]\n")?;
+    let many = file_of(
+        rt.alloc(),
+        1000,
+        "[[trust]]\nsensor = \"x\"\n",
+        "[[range]]\n",
+    )?;
     assert_eq!(rt; fault_of(rt.alloc(), many.as_str()), fault(TooMany, 0));
     let long = base_of_length(rt.alloc(), 1_048_577)?;
     assert_eq!(rt;
@@ -359,11 +467,76 @@ fn each_cause_once(rt: HostRuntime) -> Result<(), Fail> {
     Ok(())
 }
 
-/// As many rules as there may be.
+/// A table of each kind with no key but those that it must have, and the other keys that it may have.
+const TABLES: [(&str, &str); 7] = [
+    (
+        "[[speed]]\nsensor = \"x\"\nmin = -1\nmax = 1\nwindow = 1\n",
+        "per = 60\nprice = 1\n",
+    ),
+    (
+        "[[swing]]\nsensor = \"x\"\nmost = 1\nwindow = 1\n",
+        "price = 2\n",
+    ),
+    (
+        "[[drift]]\nsensor = \"x\"\nmin = -1\nmax = 1\nover = 1\nwindow = 2\n",
+        "per = 60\nprice = 3\n",
+    ),
+    (
+        "[[range]]\nsensor = \"x\"\n",
+        "min = -5\nmax = 5\nfrom = 1\nto = 2\nprice = 999\n",
+    ),
+    ("[[trust]]\nsensor = \"x\"\n", "from = 1\nto = 2\n"),
+    (
+        "[[weight]]\nsensor = \"x\"\nweight = 5\n",
+        "from = 1\nto = 2\n",
+    ),
+    (
+        "[[between]]\nfirst = \"x\"\nsecond = \"y\"\nmin = -1\nmax = 1\n",
+        "price = 1000\n",
+    ),
+];
+
+/// The prices of the tables with all keys.
+const PRICES: [u32; 7] = [1, 2, 3, 999, 0, 0, 1000];
+
+/// One rule of each kind, and as many as there may be, with the keys that must be there and with all keys.
 #[test]
-fn a_thousand_rules_are_read(rt: HostRuntime) -> Result<(), Fail> {
-    let text = a_thousand_rules_and(rt.alloc(), "")?;
-    assert_eq!(rt; read_rules(rt.alloc(), text.as_bytes())?.count(), 1000);
+fn one_and_a_thousand_rules_of_each_kind(rt: HostRuntime) -> Result<(), Fail> {
+    for ((least, rest), price) in TABLES.iter().zip(PRICES) {
+        let whole = format!(in rt.alloc(); "{least}{rest}")?;
+        for count in [1, 1000] {
+            let text = file_of(rt.alloc(), count, least, "")?;
+            let rules = read_rules(rt.alloc(), text.as_bytes())?;
+            assert_eq!(rt; rules.count() as usize, count, "{least}");
+            assert_eq!(rt; rules.rule_at(1).map(|rule| rule.price()), Some(0));
+            let text = file_of(rt.alloc(), count, whole.as_str(), "")?;
+            let rules = read_rules(rt.alloc(), text.as_bytes())?;
+            let last = rules.rule_at(count as u32);
+            assert_eq!(rt; last.map(|rule| rule.price()), Some(price), "{rest}");
+        }
+    }
+    Ok(())
+}
+
+/// A price out of its limits, one that is no whole number, and one where none may be.
+#[test]
+fn prices_that_are_refused(rt: HostRuntime) -> Result<(), Fail> {
+    for ((table, _), price) in TABLES.iter().zip(PRICES) {
+        let rows = [
+            ("price = 0", OutOfLimit),
+            ("price = 1001", OutOfLimit),
+            ("price = \"2\"", WrongKind),
+        ];
+        for (line, cause) in rows {
+            let cause = if price == 0 { UnknownKey } else { cause };
+            let text = file_of(rt.alloc(), 1, table, line)?;
+            assert_eq!(rt;
+                fault_of(rt.alloc(), text.as_str()),
+                fault(cause, 1),
+                "{table}{line}"
+            );
+        }
+    }
     Ok(())
 }
 

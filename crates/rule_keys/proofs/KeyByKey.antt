@@ -1,5 +1,5 @@
 -- Reading key after key, and the checks one after the other.
-use Rattle.std.proofs.Common.{◌≡◌, ℕ, ◌+◌, ◌<◌, ◌≤◌, pos, List, [], ◌∷◌, ◌++◌, length, get_or, drop, map, Result, Ok, Err, refl, inl, inr, append_assoc}
+use Rattle.std.proofs.Common.{◌≡◌, ℕ, ◌+◌, ◌<◌, ◌≤◌, List, [], ◌∷◌, ◌++◌, length, get_or, drop, map, Result, Ok, Err, refl, inl, inr, append_assoc}
 use Rattle.std.proofs.lemmas.List.{append-nil, drop_all, drop_more, map-append}
 use Rattle.std.specs.List.{AllByRecursion}
 use Rattle.toml.specs.Data.{Members}
@@ -11,6 +11,7 @@ use Rattle.rule_keys.specs.declared.key.KeyName.TheVariants.{Decimals}
 use Rattle.rule_keys.specs.declared.key.Kind.TheVariants.{Whole}
 use Rattle.rule_keys.specs.declared.key.Absent.TheVariants.{Refused}
 use Rattle.rule_keys.specs.declared.entries.Entry.{Entry}
+use Rattle.rule_keys.specs.declared.entries.Found.{Found}
 use Rattle.rule_keys.specs.Seen.{seen, meaning}
 use Rattle.rule_keys.specs.declared.key.Check.{Check}
 use Rattle.rule_keys.specs.declared.key.Check.TheVariants.{Order}
@@ -107,14 +108,14 @@ accepted scale kind given entries only reads passes = inr (only, (reads, passes)
 
 -- what is read past the end of a slice
 abbrev pub no_key : Key
-no_key = record { name = Decimals; kind = Whole (pos 0) (pos 0); absent = Refused }
+no_key = record { name = Decimals; kind = Whole 0 0; absent = Refused }
 
 abbrev pub no_check : Check
 no_check = Order Decimals Decimals
 
-pub pushed : (scale : Scale) (given : Members) (keys : List Key) (i : ℕ) (found now : List (KeyName × Entry)) (entry : Entry) → i < length keys
+pub pushed : (scale : Scale) (given : Members) (keys : List Key) (i : ℕ) (found now : List Found) (entry : Entry) → i < length keys
     → IsSoFar scale given keys (drop i keys) (map seen found) → ReadsKey scale given (get_or keys i no_key) (Ok (meaning entry))
-    → now ≡ found ++ ((get_or keys i no_key).name, entry) ∷ [] → IsSoFar scale given keys (drop (i + 1) keys) (map seen now)
+    → now ≡ found ++ record { key = (get_or keys i no_key).name; entry = entry } ∷ [] → IsSoFar scale given keys (drop (i + 1) keys) (map seen now)
 pushed scale given keys i found now entry within so_far here is =
     rw (is, map-append) (so_far_more scale given keys (drop (i + 1) keys) (get_or keys i no_key) (map seen found) (meaning entry) (rw (drop_more keys i no_key within) at so_far) here)
 

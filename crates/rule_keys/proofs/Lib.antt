@@ -1,7 +1,7 @@
 pub mod Fits
 pub mod KeyByKey
 pub mod Known
+pub mod Meanings
 pub mod OneTable
 pub mod OneValue
-pub mod Places
 pub mod Products

@@ -7,7 +7,7 @@ use Rattle.rule_keys.specs.declared.cause.KeyCause.{KeyCause}
 use Rattle.rule_keys.specs.declared.key.TableKind.{TableKind}
 use Rattle.rule_keys.specs.declared.key.KeyName.{KeyName}
 use Rattle.rule_keys.specs.declared.key.Absent.{Absent}
-use Rattle.rule_keys.specs.declared.key.Absent.TheVariants.{Refused, Number, NoName}
+use Rattle.rule_keys.specs.declared.key.Absent.TheVariants.{Refused, Number, Chosen, Nothing}
 use Rattle.rule_keys.specs.declared.key.Check.{Check}
 use Rattle.rule_keys.specs.declared.key.Key.{Key}
 use Rattle.rule_keys.specs.declared.read.Scale.{Scale}
@@ -22,7 +22,8 @@ use Rattle.rule_keys.proofs.OneValue.{NumbersAreOne, TimesAreOne, value_one}
 absent_one : (absent : Absent) → HasOne (ReadsAbsent absent)
 absent_one Refused one other p q = p ∙ sym q
 absent_one (Number z) one other p q = p ∙ sym q
-absent_one NoName one other p q = p ∙ sym q
+absent_one (Chosen c) one other p q = p ∙ sym q
+absent_one Nothing one other p q = p ∙ sym q
 
 found_one : NumbersAreOne → TimesAreOne → (scale : Scale) (key : Key) (found : Option Data) → HasOne (ReadsFound scale key found)
 found_one numbers times scale key None = absent_one key.absent

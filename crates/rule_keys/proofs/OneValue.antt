@@ -1,13 +1,13 @@
 -- What stands at a key has one answer.
-use Rattle.std.proofs.Common.{◌≡◌, ◌≢◌, ◌⊎◌, ℕ, zero, suc, ◌^◌, ◌<◌, ◌≤◌, ℤ, pos, ◌*ℤ◌, ◌≤ℤ◌, ◌<ℤ◌, List, [], ◌∷◌, length, Result, Ok, Err, codes, slice_index, unsigned_abs, inl, inr, refl, sym, ap, ◌∙◌, subst, arith}
+use Rattle.std.proofs.Common.{◌≡◌, ◌≢◌, ◌⊎◌, ℕ, ◌^◌, ◌<◌, ◌≤◌, ℤ, pos, ◌*ℤ◌, ◌≤ℤ◌, ◌<ℤ◌, List, [], ◌∷◌, length, Result, Ok, Err, codes, slice_index, unsigned_abs, inl, inr, refl, sym, ap, ◌∙◌, subst, arith}
 use Rattle.std.proofs.lemmas.Int.{ints}
 use Rattle.std.specs.Fmt.{signed_decimal}
 use Rattle.words.proofs.Answers.{HasOne}
 use Rattle.toml.specs.Data.{Data, string, integer, float, boolean, datetime, array, table}
 use Rattle.fix_point.specs.Scaled as Scaled
 use Rattle.fix_point.specs.declared.scale.NumFault.{NumFault}
-use Rattle.fix_point.specs.declared.scale.Extra.{Extra}
-use Rattle.fix_point.specs.declared.scale.Extra.TheVariants.{Refuse}
+use Rattle.fix_point.specs.declared.scale.Extra.{Extra as ExtraWay}
+use Rattle.fix_point.specs.declared.scale.Extra.TheVariants.{Refuse, Round}
 use Rattle.time_text.specs.Ticks as Ticks
 use Rattle.time_text.specs.declared.form.TimeForm.{TimeForm}
 use Rattle.time_text.specs.declared.form.TimeForm.TheVariants.{Sec, Milli, Micro, Nano, Instant, Civil}
@@ -19,13 +19,17 @@ use Rattle.rule_keys.specs.declared.key.Kind.TheVariants.{Whole, Value, Amount, 
 use Rattle.rule_keys.specs.declared.key.Choice.{Choice}
 use Rattle.rule_keys.specs.declared.key.Choice.TheVariants as choice
 use Rattle.rule_keys.specs.declared.read.Scale.{Scale}
-use Rattle.rule_keys.specs.Entries.{number, name, no_name}
-use Rattle.rule_keys.specs.Words.{words}
-use Rattle.rule_keys.specs.Values.{Answers, AtLeast, ReadsWithin, ReadsWhole, ReadsScaledWhole, ReadsScaledText, ReadsScaled, ReadsTime, ReadsInteger, ReadsMoment, IsWordAt, ReadsChosen, ReadsWord, ReadsNumber, ReadsName, AsNumber, ReadsValue}
+use Rattle.fix_point.specs.declared.scale.TheConstants.{MOST_UNITS}
+use Rattle.rule_keys.specs.declared.key.Chosen.{Chosen}
+use Rattle.rule_keys.specs.declared.key.Chosen.TheVariants.{Form, Separator, Extra}
+use Rattle.rule_keys.specs.declared.limits.TheConstants.{MOST_MILLIONTHS, MOST_SPAN}
+use Rattle.rule_keys.specs.Entries.{Meaning, number, name, chosen, nothing}
+use Rattle.rule_keys.specs.Words.{words, Means}
+use Rattle.rule_keys.specs.Values.{Answers, AtLeast, ReadsWithin, ReadsWhole, ReadsScaledWhole, ReadsScaledText, ReadsScaled, ReadsTime, ReadsInteger, ReadsMoment, IsMeaningOf, ReadsChosen, ReadsWord, ReadsNumber, ReadsName, AsNumber, ReadsValue}
 
 -- what is proved of number texts and of time texts
 abbrev pub NumbersAreOne : Type 0
-NumbersAreOne = (text : List ℕ) (d : ℕ) (extra : Extra) (most : ℤ) (one other : Result ℤ NumFault) → Scaled.Reads text d extra most one → Scaled.Reads text d extra most other → one ≡ other
+NumbersAreOne = (text : List ℕ) (d : ℕ) (extra : ExtraWay) (most : ℤ) (one other : Result ℤ NumFault) → Scaled.Reads text d extra most one → Scaled.Reads text d extra most other → one ≡ other
 
 abbrev pub TimesAreOne : Type 0
 TimesAreOne = (form : TimeForm) (text : List ℕ) (one other : Result ℤ TimeFault) → Ticks.Reads form text one → Ticks.Reads form text other → one ≡ other
@@ -76,8 +80,8 @@ outside least most z above below (inr high) = omega (arith, ints, below, high)
 within_one : (least most z : ℤ) → HasOne (ReadsWithin least most z)
 within_one least most z one other p q = answers_one (λ w. (w ≡ z) × (least ≤ℤ z) × (z ≤ℤ most)) OutOfLimit ((z <ℤ least) ⊎ (most <ℤ z)) (λ one other p q. p.0 ∙ sym q.0) (λ one p q. outside least most z p.1 p.2 q) one other p q
 
-whole_one : (least most : ℤ) (found : Data) → HasOne (ReadsWhole least most found)
-whole_one least most (integer z) = within_one least most z
+whole_one : (least most : ℕ) (found : Data) → HasOne (ReadsWhole least most found)
+whole_one least most (integer z) = within_one (pos least) (pos most) z
 whole_one least most (string text) = refused_one WrongKind
 whole_one least most (float x) = refused_one WrongKind
 whole_one least most (boolean b) = refused_one WrongKind
@@ -138,27 +142,27 @@ moment_one times form (table found) = refused_one WrongKind
 -- ---- words
 
 -- no word stands twice
-Differ : List ℕ → List (List ℕ) → Type 0
-Differ word [] = Unit {0}
-Differ word (w ∷ others) = (word ≢ w) × Differ word others
+Differ : List ℕ → List (List ℕ × Chosen) → Type 0
+Differ text [] = Unit {0}
+Differ text (word ∷ others) = (text ≢ word.0) × Differ text others
 
-AreApart : List (List ℕ) → Type 0
+AreApart : List (List ℕ × Chosen) → Type 0
 AreApart [] = Unit {0}
-AreApart (w ∷ others) = Differ w others × AreApart others
+AreApart (word ∷ others) = Differ word.0 others × AreApart others
 
-not_among : (others : List (List ℕ)) (word : List ℕ) (place : ℕ) → Differ word others → IsWordAt others word place → ⊥
+not_among : (others : List (List ℕ × Chosen)) (text : List ℕ) (c : Chosen) → Differ text others → Means others text c → ⊥
 unfolding Differ
-not_among [] word place apart at = at
-not_among (w ∷ others) word zero apart at = apart.0 at
-not_among (w ∷ others) word (suc place) apart at = not_among others word place apart.1 at
+not_among [] text c apart means = means
+not_among (word ∷ others) text c apart (inl means) = apart.0 means.0
+not_among (word ∷ others) text c apart (inr means) = not_among others text c apart.1 means
 
-one_place : (list : List (List ℕ)) (word : List ℕ) (place other : ℕ) → AreApart list → IsWordAt list word place → IsWordAt list word other → place ≡ other
+one_meaning : (list : List (List ℕ × Chosen)) (text : List ℕ) (one other : Chosen) → AreApart list → Means list text one → Means list text other → one ≡ other
 unfolding AreApart
-one_place [] word place other apart p q = absurd p
-one_place (w ∷ others) word zero zero apart p q = refl
-one_place (w ∷ others) word zero (suc other) apart p q = absurd (not_among others w other apart.0 (subst (λ given. IsWordAt others given other) p q))
-one_place (w ∷ others) word (suc place) zero apart p q = absurd (not_among others w place apart.0 (subst (λ given. IsWordAt others given place) q p))
-one_place (w ∷ others) word (suc place) (suc other) apart p q = ap suc (one_place others word place other apart.1 p q)
+one_meaning [] text one other apart p q = absurd p
+one_meaning (word ∷ others) text one other apart (inl p) (inl q) = p.1 ∙ sym q.1
+one_meaning (word ∷ others) text one other apart (inl p) (inr q) = absurd (not_among others word.0 other apart.0 (subst (λ given. Means others given other) p.0 q))
+one_meaning (word ∷ others) text one other apart (inr p) (inl q) = absurd (not_among others word.0 one apart.0 (subst (λ given. Means others given one) q.0 p))
+one_meaning (word ∷ others) text one other apart (inr p) (inr q) = one_meaning others text one other apart.1 p q
 
 -- told apart by a byte
 byte_differs : (i : ℕ) (v w : List ℕ) (c d : ℕ) → slice_index v i ≡ c → slice_index w i ≡ d → (c ≡ d → ⊥) → v ≢ w
@@ -168,39 +172,39 @@ byte_differs i v w c d p q apart e = apart (sym p ∙ (ap (λ word. slice_index 
 length_differs : (v w : List ℕ) (m n : ℕ) → length v ≡ m → length w ≡ n → (m ≡ n → ⊥) → v ≢ w
 length_differs v w m n p q apart e = apart (sym p ∙ (ap length e ∙ q))
 
-form_apart_0 : Differ (codes "s") (codes "ms" ∷ codes "us" ∷ codes "ns" ∷ codes "instant" ∷ codes "civil" ∷ [])
+form_apart_0 : Differ (codes "s") ((codes "ms", Form Milli) ∷ (codes "us", Form Micro) ∷ (codes "ns", Form Nano) ∷ (codes "instant", Form Instant) ∷ (codes "civil", Form Civil) ∷ [])
 unfolding Differ
 form_apart_0 = (length_differs (codes "s") (codes "ms") 1 2 refl refl (λ e. omega (arith, e)), (length_differs (codes "s") (codes "us") 1 2 refl refl (λ e. omega (arith, e)), (length_differs (codes "s") (codes "ns") 1 2 refl refl (λ e. omega (arith, e)), (length_differs (codes "s") (codes "instant") 1 7 refl refl (λ e. omega (arith, e)), (length_differs (codes "s") (codes "civil") 1 5 refl refl (λ e. omega (arith, e)), tt)))))
 
-form_apart_1 : Differ (codes "ms") (codes "us" ∷ codes "ns" ∷ codes "instant" ∷ codes "civil" ∷ [])
+form_apart_1 : Differ (codes "ms") ((codes "us", Form Micro) ∷ (codes "ns", Form Nano) ∷ (codes "instant", Form Instant) ∷ (codes "civil", Form Civil) ∷ [])
 unfolding Differ
 form_apart_1 = (byte_differs 0 (codes "ms") (codes "us") 109 117 refl refl (λ e. omega (arith, e)), (byte_differs 0 (codes "ms") (codes "ns") 109 110 refl refl (λ e. omega (arith, e)), (length_differs (codes "ms") (codes "instant") 2 7 refl refl (λ e. omega (arith, e)), (length_differs (codes "ms") (codes "civil") 2 5 refl refl (λ e. omega (arith, e)), tt))))
 
-form_apart_2 : Differ (codes "us") (codes "ns" ∷ codes "instant" ∷ codes "civil" ∷ [])
+form_apart_2 : Differ (codes "us") ((codes "ns", Form Nano) ∷ (codes "instant", Form Instant) ∷ (codes "civil", Form Civil) ∷ [])
 unfolding Differ
 form_apart_2 = (byte_differs 0 (codes "us") (codes "ns") 117 110 refl refl (λ e. omega (arith, e)), (length_differs (codes "us") (codes "instant") 2 7 refl refl (λ e. omega (arith, e)), (length_differs (codes "us") (codes "civil") 2 5 refl refl (λ e. omega (arith, e)), tt)))
 
-form_apart_3 : Differ (codes "ns") (codes "instant" ∷ codes "civil" ∷ [])
+form_apart_3 : Differ (codes "ns") ((codes "instant", Form Instant) ∷ (codes "civil", Form Civil) ∷ [])
 unfolding Differ
 form_apart_3 = (length_differs (codes "ns") (codes "instant") 2 7 refl refl (λ e. omega (arith, e)), (length_differs (codes "ns") (codes "civil") 2 5 refl refl (λ e. omega (arith, e)), tt))
 
-form_apart_4 : Differ (codes "instant") (codes "civil" ∷ [])
+form_apart_4 : Differ (codes "instant") ((codes "civil", Form Civil) ∷ [])
 unfolding Differ
 form_apart_4 = (length_differs (codes "instant") (codes "civil") 7 5 refl refl (λ e. omega (arith, e)), tt)
 
-separator_apart_0 : Differ (codes ",") (codes ";" ∷ (9 ∷ []) ∷ codes "|" ∷ [])
+separator_apart_0 : Differ (codes ",") ((codes ";", Separator 59) ∷ (9 ∷ [], Separator 9) ∷ (codes "|", Separator 124) ∷ [])
 unfolding Differ
 separator_apart_0 = (byte_differs 0 (codes ",") (codes ";") 44 59 refl refl (λ e. omega (arith, e)), (byte_differs 0 (codes ",") (9 ∷ []) 44 9 refl refl (λ e. omega (arith, e)), (byte_differs 0 (codes ",") (codes "|") 44 124 refl refl (λ e. omega (arith, e)), tt)))
 
-separator_apart_1 : Differ (codes ";") ((9 ∷ []) ∷ codes "|" ∷ [])
+separator_apart_1 : Differ (codes ";") ((9 ∷ [], Separator 9) ∷ (codes "|", Separator 124) ∷ [])
 unfolding Differ
 separator_apart_1 = (byte_differs 0 (codes ";") (9 ∷ []) 59 9 refl refl (λ e. omega (arith, e)), (byte_differs 0 (codes ";") (codes "|") 59 124 refl refl (λ e. omega (arith, e)), tt))
 
-separator_apart_2 : Differ (9 ∷ []) (codes "|" ∷ [])
+separator_apart_2 : Differ (9 ∷ []) ((codes "|", Separator 124) ∷ [])
 unfolding Differ
 separator_apart_2 = (byte_differs 0 (9 ∷ []) (codes "|") 9 124 refl refl (λ e. omega (arith, e)), tt)
 
-extra_apart_0 : Differ (codes "refuse") (codes "round" ∷ [])
+extra_apart_0 : Differ (codes "refuse") ((codes "round", Extra Round) ∷ [])
 unfolding Differ
 extra_apart_0 = (length_differs (codes "refuse") (codes "round") 6 5 refl refl (λ e. omega (arith, e)), tt)
 
@@ -210,11 +214,25 @@ words_apart choice.Form = (form_apart_0, (form_apart_1, (form_apart_2, (form_apa
 words_apart choice.Separator = (separator_apart_0, (separator_apart_1, (separator_apart_2, (tt, tt))))
 words_apart choice.Extra = (extra_apart_0, (tt, tt))
 
+meaning_one : (given : Choice) (word : List ℕ) (one other : Meaning) → IsMeaningOf (words given) word one → IsMeaningOf (words given) word other → one ≡ other
+meaning_one given word (chosen c) (chosen d) p q = ap chosen (one_meaning (words given) word c d (words_apart given) p q)
+meaning_one given word (chosen c) (number z) p q = absurd q
+meaning_one given word (chosen c) (name s) p q = absurd q
+meaning_one given word (chosen c) nothing p q = absurd q
+meaning_one given word (number z) other p q = absurd p
+meaning_one given word (name s) other p q = absurd p
+meaning_one given word nothing other p q = absurd p
+
+no_meaning : (given : Choice) (word : List ℕ) (m : Meaning) → IsMeaningOf (words given) word m → ((c : Chosen) → Means (words given) word c → ⊥) → ⊥
+no_meaning given word (chosen c) p q = q c p
+no_meaning given word (number z) p q = p
+no_meaning given word (name s) p q = p
+no_meaning given word nothing p q = p
+
 chosen_one : (given : Choice) (word : List ℕ) → HasOne (ReadsChosen given word)
 chosen_one given word one other p q =
-    answers_one (λ z. (place : ℕ) × (z ≡ pos place) × IsWordAt (words given) word place) OutOfLimit ((place : ℕ) → IsWordAt (words given) word place → ⊥)
-    (λ one other p q. p.1 ∙ (ap pos (one_place (words given) word p.0 q.0 (words_apart given) p.2 q.2) ∙ sym q.1))
-    (λ one p q. q p.0 p.2)
+    answers_one (IsMeaningOf (words given) word) OutOfLimit ((c : Chosen) → Means (words given) word c → ⊥)
+    (meaning_one given word) (no_meaning given word)
     one other p q
 
 word_one : (given : Choice) (found : Data) → HasOne (ReadsWord given found)
@@ -230,12 +248,12 @@ word_one given (table found) = refused_one WrongKind
 
 number_one : NumbersAreOne → TimesAreOne → (scale : Scale) (kind : Kind) (found : Data) → HasOne (ReadsNumber scale kind found)
 number_one numbers times scale (Whole least most) found = whole_one least most found
-number_one numbers times scale Value found = scaled_one numbers scale.decimals (10 ^ 15) found
-number_one numbers times scale Amount found = at_least_one (ReadsScaled scale.decimals (10 ^ 15) found) (scaled_one numbers scale.decimals (10 ^ 15) found) (pos 0)
-number_one numbers times scale Rate found = scaled_one numbers 6 (10 ^ 15) found
-number_one numbers times scale Span found = at_least_one (ReadsScaled 9 (10 ^ 17) found) (scaled_one numbers 9 (10 ^ 17) found) (pos 1)
+number_one numbers times scale Value found = scaled_one numbers scale.decimals (unsigned_abs MOST_UNITS) found
+number_one numbers times scale Amount found = at_least_one (ReadsScaled scale.decimals (unsigned_abs MOST_UNITS) found) (scaled_one numbers scale.decimals (unsigned_abs MOST_UNITS) found) (pos 0)
+number_one numbers times scale Rate found = scaled_one numbers 6 MOST_MILLIONTHS found
+number_one numbers times scale Span found = at_least_one (ReadsScaled 9 MOST_SPAN found) (scaled_one numbers 9 MOST_SPAN found) (pos 1)
 number_one numbers times scale Moment found = moment_one times scale.form found
-number_one numbers times scale (Word given) found = word_one given found
+number_one numbers times scale (Word given) found = λ one other p q. absurd p
 number_one numbers times scale Name found = λ one other p q. absurd p
 
 name_one : (found : Data) → HasOne (ReadsName found)
@@ -250,13 +268,16 @@ name_one (table found) one other p q = p ∙ sym q
 as_number_one : (Reads : Result ℤ KeyCause → Type 0) → HasOne Reads → HasOne (AsNumber Reads)
 as_number_one Reads same (Ok (number z)) (Ok (number w)) p q = ap (λ n. Ok (number n)) (same_value z w (same (Ok z) (Ok w) p q))
 as_number_one Reads same (Ok (number z)) (Ok (name s)) p q = absurd q
-as_number_one Reads same (Ok (number z)) (Ok no_name) p q = absurd q
+as_number_one Reads same (Ok (number z)) (Ok (chosen c)) p q = absurd q
+as_number_one Reads same (Ok (number z)) (Ok nothing) p q = absurd q
 as_number_one Reads same (Ok (number z)) (Err found) p q = absurd (no_cause z found (same (Ok z) (Err found) p q))
 as_number_one Reads same (Ok (name s)) other p q = absurd p
-as_number_one Reads same (Ok no_name) other p q = absurd p
+as_number_one Reads same (Ok (chosen c)) other p q = absurd p
+as_number_one Reads same (Ok nothing) other p q = absurd p
 as_number_one Reads same (Err found) (Ok (number w)) p q = absurd (no_cause w found (same (Ok w) (Err found) q p))
 as_number_one Reads same (Err found) (Ok (name s)) p q = absurd q
-as_number_one Reads same (Err found) (Ok no_name) p q = absurd q
+as_number_one Reads same (Err found) (Ok (chosen c)) p q = absurd q
+as_number_one Reads same (Err found) (Ok nothing) p q = absurd q
 as_number_one Reads same (Err found) (Err other) p q = let e = same (Err found) (Err other) p q in cc
 
 pub value_one : NumbersAreOne → TimesAreOne → (scale : Scale) (kind : Kind) (found : Data) → HasOne (ReadsValue scale kind found)
@@ -267,4 +288,4 @@ value_one numbers times scale Amount found = as_number_one (ReadsNumber scale Am
 value_one numbers times scale Rate found = as_number_one (ReadsNumber scale Rate found) (number_one numbers times scale Rate found)
 value_one numbers times scale Span found = as_number_one (ReadsNumber scale Span found) (number_one numbers times scale Span found)
 value_one numbers times scale Moment found = as_number_one (ReadsNumber scale Moment found) (number_one numbers times scale Moment found)
-value_one numbers times scale (Word given) found = as_number_one (ReadsNumber scale (Word given) found) (number_one numbers times scale (Word given) found)
+value_one numbers times scale (Word given) found = word_one given found

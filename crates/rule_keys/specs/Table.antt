@@ -9,12 +9,13 @@ use Rattle.rule_keys.specs.declared.key.TableKind.{TableKind}
 use Rattle.rule_keys.specs.declared.key.KeyName.{KeyName}
 use Rattle.rule_keys.specs.declared.key.KeyName.TheVariants.{Per, Window}
 use Rattle.rule_keys.specs.declared.key.Absent.{Absent}
-use Rattle.rule_keys.specs.declared.key.Absent.TheVariants.{Refused, Number, NoName}
+use Rattle.rule_keys.specs.declared.key.Absent.TheVariants.{Refused, Number, Chosen, Nothing}
 use Rattle.rule_keys.specs.declared.key.Check.{Check}
 use Rattle.rule_keys.specs.declared.key.Check.TheVariants.{Order, Reach, Differ}
 use Rattle.rule_keys.specs.declared.key.Key.{Key}
 use Rattle.rule_keys.specs.declared.read.Scale.{Scale}
-use Rattle.rule_keys.specs.Entries.{Meaning, number, no_name, number_at, name_at}
+use Rattle.rule_keys.specs.declared.limits.TheConstants.{MOST_REACH}
+use Rattle.rule_keys.specs.Entries.{Meaning, number, chosen, nothing, number_at, name_at}
 use Rattle.rule_keys.specs.Keys.{keys_of, checks_of}
 use Rattle.rule_keys.specs.Values.{ReadsValue}
 use Rattle.rule_keys.specs.Words.{key_text}
@@ -28,7 +29,8 @@ HasOnly keys (member key value members) = Contains keys key × HasOnly keys memb
 abbrev pub ReadsAbsent : Absent → Result Meaning KeyCause → Type 0
 ReadsAbsent Refused answer = answer ≡ Err MissingKey
 ReadsAbsent (Number z) answer = answer ≡ Ok (number z)
-ReadsAbsent NoName answer = answer ≡ Ok no_name
+ReadsAbsent (Chosen c) answer = answer ≡ Ok (chosen c)
+ReadsAbsent Nothing answer = answer ≡ Ok nothing
 
 -- what is read at a key, if something stands there
 abbrev pub ReadsFound : Scale → Key → Option Data → Result Meaning KeyCause → Type 0
@@ -50,7 +52,7 @@ ReadsKeys scale given (key ∷ keys) (Err cause) =
 
 -- a rate of so many millionths for each `per` seconds allows at most 4·10^15 units of 10^-d within the window
 abbrev pub IsInReach : ℕ → ℤ → ℤ → ℤ → Type 0
-IsInReach d millionths per window = unsigned_abs millionths * 10 ^ d * unsigned_abs window ≤ 4 * 10 ^ 30 * unsigned_abs per
+IsInReach d millionths per window = unsigned_abs millionths * 10 ^ d * unsigned_abs window ≤ MOST_REACH * unsigned_abs per
 
 abbrev pub Passes : ℕ → List (KeyName × Meaning) → Check → Type 0
 Passes d entries (Order low high) = number_at low entries ≤ℤ number_at high entries

@@ -1,10 +1,11 @@
 -- To be believed: what stands at a key, as the number or the name that it means.
-use Rattle.std.specs.Prelude.{◌≡◌, ◌⊎◌, ℕ, zero, suc, ◌^◌, ◌<◌, ◌≤◌, ℤ, pos, ◌*ℤ◌, ◌≤ℤ◌, ◌<ℤ◌, List, [], ◌∷◌, Result, Ok, Err, unsigned_abs}
+use Rattle.std.specs.Prelude.{◌≡◌, ◌⊎◌, ℕ, ◌^◌, ◌<◌, ◌≤◌, ℤ, pos, ◌*ℤ◌, ◌≤ℤ◌, ◌<ℤ◌, List, Result, Ok, Err, unsigned_abs}
 use Rattle.std.specs.Fmt.{signed_decimal}
 use Rattle.toml.specs.Data.{Data, string, integer}
 use Rattle.fix_point.specs.Scaled as Scaled
 use Rattle.fix_point.specs.declared.scale.NumFault.{NumFault}
 use Rattle.fix_point.specs.declared.scale.Extra.TheVariants.{Refuse}
+use Rattle.fix_point.specs.declared.scale.TheConstants.{MOST_UNITS}
 use Rattle.time_text.specs.Ticks as Ticks
 use Rattle.time_text.specs.Trimmed.{trimmed}
 use Rattle.time_text.specs.declared.form.TimeForm.{TimeForm}
@@ -15,9 +16,11 @@ use Rattle.rule_keys.specs.declared.cause.KeyCause.TheVariants.{WrongKind, BadNu
 use Rattle.rule_keys.specs.declared.key.Kind.{Kind}
 use Rattle.rule_keys.specs.declared.key.Kind.TheVariants.{Whole, Value, Amount, Rate, Span, Moment, Name, Word}
 use Rattle.rule_keys.specs.declared.key.Choice.{Choice}
+use Rattle.rule_keys.specs.declared.key.Chosen.{Chosen}
+use Rattle.rule_keys.specs.declared.limits.TheConstants.{MOST_MILLIONTHS, MOST_SPAN}
 use Rattle.rule_keys.specs.declared.read.Scale.{Scale}
-use Rattle.rule_keys.specs.Entries.{Meaning, number, name, no_name}
-use Rattle.rule_keys.specs.Words.{words}
+use Rattle.rule_keys.specs.Entries.{Meaning, number, name, chosen, nothing}
+use Rattle.rule_keys.specs.Words.{words, Means}
 
 -- The answer is a value that is good, or this cause where something is bad.
 abbrev pub Answers : {A : Type 0} → (A → Type 0) → KeyCause → Type 0 → Result A KeyCause → Type 0
@@ -39,8 +42,8 @@ abbrev pub ReadsWithin : ℤ → ℤ → ℤ → Result ℤ KeyCause → Type 0
 ReadsWithin least most z answer = Answers (λ w. (w ≡ z) × (least ≤ℤ z) × (z ≤ℤ most)) OutOfLimit ((z <ℤ least) ⊎ (most <ℤ z)) answer
 
 -- a TOML integer within limits
-abbrev pub ReadsWhole : ℤ → ℤ → Data → Result ℤ KeyCause → Type 0
-ReadsWhole least most (integer z) answer = ReadsWithin least most z answer
+abbrev pub ReadsWhole : ℕ → ℕ → Data → Result ℤ KeyCause → Type 0
+ReadsWhole least most (integer z) answer = ReadsWithin (pos least) (pos most) z answer
 ReadsWhole least most _ answer = answer ≡ Err WrongKind
 
 -- so many wholes in units of 10^-d, at most so many
@@ -76,30 +79,29 @@ ReadsMoment form (string text) answer = ReadsTime form text answer
 ReadsMoment form (integer z) answer = ReadsInteger form z answer
 ReadsMoment form _ answer = answer ≡ Err WrongKind
 
--- the word has this place among the words, counted from 0
-abbrev pub IsWordAt : List (List ℕ) → List ℕ → ℕ → Type 0
-IsWordAt [] word place = ⊥
-IsWordAt (w ∷ others) word zero = word ≡ w
-IsWordAt (w ∷ others) word (suc place) = IsWordAt others word place
+-- what one of some words means
+abbrev pub IsMeaningOf : List (List ℕ × Chosen) → List ℕ → Meaning → Type 0
+IsMeaningOf some word (chosen c) = Means some word c
+IsMeaningOf some word _ = ⊥
 
--- the place of a word among those that may be chosen
-abbrev pub ReadsChosen : Choice → List ℕ → Result ℤ KeyCause → Type 0
+-- what a word of a list means
+abbrev pub ReadsChosen : Choice → List ℕ → Result Meaning KeyCause → Type 0
 ReadsChosen choice word answer =
-    Answers (λ z. (place : ℕ) × (z ≡ pos place) × IsWordAt (words choice) word place) OutOfLimit ((place : ℕ) → IsWordAt (words choice) word place → ⊥) answer
+    Answers (IsMeaningOf (words choice) word) OutOfLimit ((c : Chosen) → Means (words choice) word c → ⊥) answer
 
-abbrev pub ReadsWord : Choice → Data → Result ℤ KeyCause → Type 0
+abbrev pub ReadsWord : Choice → Data → Result Meaning KeyCause → Type 0
 ReadsWord choice (string word) answer = ReadsChosen choice word answer
 ReadsWord choice _ answer = answer ≡ Err WrongKind
 
 -- the number that stands at a key
 abbrev pub ReadsNumber : Scale → Kind → Data → Result ℤ KeyCause → Type 0
 ReadsNumber scale (Whole least most) found answer = ReadsWhole least most found answer
-ReadsNumber scale Value found answer = ReadsScaled scale.decimals (10 ^ 15) found answer
-ReadsNumber scale Amount found answer = AtLeast (pos 0) (ReadsScaled scale.decimals (10 ^ 15) found) answer
-ReadsNumber scale Rate found answer = ReadsScaled 6 (10 ^ 15) found answer
-ReadsNumber scale Span found answer = AtLeast (pos 1) (ReadsScaled 9 (10 ^ 17) found) answer
+ReadsNumber scale Value found answer = ReadsScaled scale.decimals (unsigned_abs MOST_UNITS) found answer
+ReadsNumber scale Amount found answer = AtLeast (pos 0) (ReadsScaled scale.decimals (unsigned_abs MOST_UNITS) found) answer
+ReadsNumber scale Rate found answer = ReadsScaled 6 MOST_MILLIONTHS found answer
+ReadsNumber scale Span found answer = AtLeast (pos 1) (ReadsScaled 9 MOST_SPAN found) answer
 ReadsNumber scale Moment found answer = ReadsMoment scale.form found answer
-ReadsNumber scale (Word choice) found answer = ReadsWord choice found answer
+ReadsNumber scale (Word choice) found answer = ⊥
 ReadsNumber scale Name found answer = ⊥
 
 -- a string, without the blanks at its ends
@@ -110,10 +112,12 @@ ReadsName _ answer = answer ≡ Err WrongKind
 abbrev pub AsNumber : (Result ℤ KeyCause → Type 0) → Result Meaning KeyCause → Type 0
 AsNumber Reads (Ok (number z)) = Reads (Ok z)
 AsNumber Reads (Ok (name s)) = ⊥
-AsNumber Reads (Ok no_name) = ⊥
+AsNumber Reads (Ok (chosen c)) = ⊥
+AsNumber Reads (Ok nothing) = ⊥
 AsNumber Reads (Err cause) = Reads (Err cause)
 
 -- what stands at a key of this kind
 abbrev pub ReadsValue : Scale → Kind → Data → Result Meaning KeyCause → Type 0
 ReadsValue scale Name found answer = ReadsName found answer
+ReadsValue scale (Word choice) found answer = ReadsWord choice found answer
 ReadsValue scale kind found answer = AsNumber (ReadsNumber scale kind found) answer

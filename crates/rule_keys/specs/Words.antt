@@ -1,5 +1,10 @@
 -- To be believed: the words of a rule file: its keys, and the choices.
-use Rattle.std.specs.Prelude.{ℕ, List, [], ◌∷◌, codes}
+use Rattle.std.specs.Prelude.{◌≡◌, ◌⊎◌, ℕ, List, [], ◌∷◌, codes}
+use Rattle.fix_point.specs.declared.scale.Extra.TheVariants.{Refuse, Round}
+use Rattle.time_text.specs.declared.form.TimeForm.TheVariants.{Sec, Milli, Micro, Nano, Instant, Civil}
+use Rattle.rule_keys.specs.declared.key.Chosen.{Chosen}
+use Rattle.rule_keys.specs.declared.key.Chosen.TheVariants.{Form, Separator, Extra}
+use Rattle.rule_keys.specs.declared.texts.Word.{Word}
 use Rattle.rule_keys.specs.declared.key.KeyName.{KeyName}
 use Rattle.rule_keys.specs.declared.key.KeyName.TheVariants as key
 use Rattle.rule_keys.specs.declared.key.Choice.{Choice}
@@ -24,9 +29,27 @@ key_text key.To = codes "to"
 key_text key.Weight = codes "weight"
 key_text key.First = codes "first"
 key_text key.Second = codes "second"
+key_text key.Price = codes "price"
 
--- the words that may be chosen
-abbrev pub words : Choice → List (List ℕ)
-words choice.Form = codes "s" ∷ codes "ms" ∷ codes "us" ∷ codes "ns" ∷ codes "instant" ∷ codes "civil" ∷ []
-words choice.Separator = codes "," ∷ codes ";" ∷ (9 ∷ []) ∷ codes "|" ∷ []
-words choice.Extra = codes "refuse" ∷ codes "round" ∷ []
+-- the words that may be chosen, each with what it means
+abbrev pub words : Choice → List (List ℕ × Chosen)
+words choice.Form =
+    (codes "s", Form Sec)
+    ∷ (codes "ms", Form Milli)
+    ∷ (codes "us", Form Micro)
+    ∷ (codes "ns", Form Nano)
+    ∷ (codes "instant", Form Instant)
+    ∷ (codes "civil", Form Civil)
+    ∷ []
+words choice.Separator =
+    (codes ",", Separator 44) ∷ (codes ";", Separator 59) ∷ (9 ∷ [], Separator 9) ∷ (codes "|", Separator 124) ∷ []
+words choice.Extra = (codes "refuse", Extra Refuse) ∷ (codes "round", Extra Round) ∷ []
+
+-- one of the words has this text, and means this
+abbrev pub Means : List (List ℕ × Chosen) → List ℕ → Chosen → Type 0
+Means [] text chosen = ⊥
+Means (word ∷ others) text chosen = ((text ≡ word.0) × (chosen ≡ word.1)) ⊎ Means others text chosen
+
+-- a word of the code, without where its text lies in memory
+abbrev pub seen_word : Word → List ℕ × Chosen
+seen_word word = (word.text.now, word.means)

@@ -19,6 +19,4 @@ pub enum KeyCause {
     ReachTooLarge,
     /// Two sensors that must differ have the same name.
     SameSensor,
-    /// Memory ran out.
-    Memory,
 }

@@ -7,9 +7,7 @@ ghost use Rattle.rule_keys.specs.Within.{HasSmallNumbers};
 use crate::cause::KeyCause;
 use crate::entries::Entries;
 use crate::key::{Check, KeyName};
-
-/// The greatest reach, 4·10^15 units, in the units of a rate times ticks: 10^-15 of them.
-const MOST_REACH: u128 = 4_000_000_000_000_000_000_000_000_000_000;
+use crate::limits::{MOST_MILLIONTHS, MOST_PER, MOST_REACH, MOST_SPAN};
 
 /// The cause of the first check that does not pass.
 pub(crate) fn check_all(d: u32, entries: &Entries, checks: &[Check]) -> Option<KeyCause>
@@ -65,9 +63,9 @@ fn is_in_order(low: i64, high: i64) -> bool
 /// the window.
 fn reaches(d: u32, millionths: i64, per: i64, window: i64) -> bool
     requires decimals { d ≤ 6 }
-    requires rate { unsigned_abs millionths ≤ 10 ^ 15 }
-    requires per { unsigned_abs per ≤ 10 ^ 7 }
-    requires window { unsigned_abs window ≤ 10 ^ 17 }
+    requires rate { unsigned_abs millionths ≤ MOST_MILLIONTHS }
+    requires per { unsigned_abs per ≤ MOST_PER }
+    requires window { unsigned_abs window ≤ MOST_SPAN }
     ensures { IsTrue result ↔ IsInReach d millionths per window }
 {
     let reach = u128::from(millionths.unsigned_abs())

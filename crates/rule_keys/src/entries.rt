@@ -1,10 +1,16 @@
 //! What was read from a table.
 ghost use Rattle.std.specs.Prelude.{◌≡◌, option_map, map};
-ghost use Rattle.rule_keys.specs.Entries.{is_same_key, meaning_at, number_at, name_at};
+ghost use Rattle.rule_keys.specs.Entries.{is_same_key, meaning_at, number_at, name_at, form_at, separator_at, extra_at};
 ghost use Rattle.rule_keys.specs.Seen.{meaning, seen};
 
-use crate::key::KeyName;
+use crate::key::{Chosen, KeyName};
+use arrayvec::ArrayVec;
+use fix_point::Extra;
 use std::marker::Model;
+use time_text::TimeForm;
+
+/// The greatest number of keys of a table.
+pub(crate) const MOST_KEYS: usize = 7;
 
 /// What stands at a key, or is taken in its place.
 #[derive(Clone, Copy)]
@@ -13,15 +19,36 @@ pub(crate) enum Entry<'a> {
     Number(i64),
     /// A name, without the blanks at its ends.
     Name(&'a [u8]),
-    /// No name.
-    NoName,
+    /// What a word means.
+    Chosen(Chosen),
+    /// Nothing.
+    Nothing,
 }
 
-/// What was read from a table, key by key.
+/// A key with what stands there.
+#[derive(Clone, Copy)]
+pub(crate) struct Found<'a> {
+    /// The key.
+    pub(crate) key: KeyName,
+    /// What stands there.
+    pub(crate) entry: Entry<'a>,
+}
+
+impl<'a> Default for Found<'a> {
+    /// What fills a place that is not used.
+    fn default() -> Self {
+        Found {
+            key: KeyName::Decimals,
+            entry: Entry::Nothing,
+        }
+    }
+}
+
+/// What was read from a table, key by key. It lies in no memory of its own.
 #[derive(Drop)]
 pub struct Entries<'a> {
     /// The keys in the order in which they were looked at, each with what stands there.
-    pub(crate) found: Vec<(KeyName, Entry<'a>)>,
+    pub(crate) found: ArrayVec<Found<'a>, MOST_KEYS>,
 }
 
 impl<'a> Model for Entries<'a> {
@@ -36,14 +63,13 @@ impl<'a> Model for Entries<'a> {
 }
 
 impl<'a> Entries<'a> {
-    /// The number at a key, and 0 where none is: units, millionths, seconds, ticks or a place in a list, as
-    /// the key's kind says.
+    /// The number at a key, and 0 where none is: units, millionths, seconds or ticks, as the key's kind says.
     pub fn number(&self, key: KeyName) -> i64
         ensures { result ≡ number_at key self.now }
     {
         match entry_at(self.found.as_slice(), key) {
             Entry::Number(number) => number,
-            Entry::Name(_) | Entry::NoName => 0,
+            Entry::Name(_) | Entry::Chosen(_) | Entry::Nothing => 0,
         }
     }
 
@@ -53,21 +79,60 @@ impl<'a> Entries<'a> {
     {
         match entry_at(self.found.as_slice(), key) {
             Entry::Name(name) => Some(name),
-            Entry::Number(_) | Entry::NoName => None,
+            Entry::Number(_) | Entry::Chosen(_) | Entry::Nothing => None,
+        }
+    }
+
+    /// The form of times at a key, and none where none is.
+    pub fn form(&self, key: KeyName) -> Option<TimeForm>
+        ensures { result ≡ form_at key self.now }
+    {
+        match entry_at(self.found.as_slice(), key) {
+            Entry::Chosen(Chosen::Form(form)) => Some(form),
+            Entry::Chosen(Chosen::Separator(_) | Chosen::Extra(_))
+            | Entry::Number(_)
+            | Entry::Name(_)
+            | Entry::Nothing => None,
+        }
+    }
+
+    /// The separator of fields at a key, and none where none is.
+    pub fn separator(&self, key: KeyName) -> Option<u8>
+        ensures { result ≡ separator_at key self.now }
+    {
+        match entry_at(self.found.as_slice(), key) {
+            Entry::Chosen(Chosen::Separator(separator)) => Some(separator),
+            Entry::Chosen(Chosen::Form(_) | Chosen::Extra(_))
+            | Entry::Number(_)
+            | Entry::Name(_)
+            | Entry::Nothing => None,
+        }
+    }
+
+    /// What is done with extra decimals, by the word at a key, and none where none is.
+    pub fn extra(&self, key: KeyName) -> Option<Extra>
+        ensures { result ≡ extra_at key self.now }
+    {
+        match entry_at(self.found.as_slice(), key) {
+            Entry::Chosen(Chosen::Extra(extra)) => Some(extra),
+            Entry::Chosen(Chosen::Form(_) | Chosen::Separator(_))
+            | Entry::Number(_)
+            | Entry::Name(_)
+            | Entry::Nothing => None,
         }
     }
 }
 
-/// What was read at a key, and no name where nothing was.
-fn entry_at<'a>(found: &[(KeyName, Entry<'a>)], key: KeyName) -> Entry<'a>
+/// What was read at a key, and nothing where nothing was.
+fn entry_at<'a>(found: &[Found<'a>], key: KeyName) -> Entry<'a>
     ensures { meaning result ≡ meaning_at key (map seen found.now) }
 {
-    for (name, entry) in found {
-        if is_same(key, *name) {
-            return *entry;
+    for one in found {
+        if is_same(key, one.key) {
+            return one.entry;
         }
     }
-    Entry::NoName
+    Entry::Nothing
 }
 
 /// Whether two keys are the same.

@@ -1,5 +1,8 @@
 //! What describes the tables of a rule file.
 
+use fix_point::Extra;
+use time_text::TimeForm;
+
 /// The tables of a rule file.
 #[derive(Clone, Copy, Debug, PartialEq, Eq)]
 pub enum TableKind {
@@ -60,6 +63,8 @@ pub enum KeyName {
     First,
     /// The name of the second sensor's column.
     Second,
+    /// What a unit beyond a bound of a rule costs.
+    Price,
 }
 
 /// A list of words of which one is chosen.
@@ -73,15 +78,26 @@ pub enum Choice {
     Extra,
 }
 
+/// What a word of a list means.
+#[derive(Clone, Copy, PartialEq, Eq)]
+pub enum Chosen {
+    /// A form of time.
+    Form(TimeForm),
+    /// The byte between two fields.
+    Separator(u8),
+    /// What is done with extra decimals.
+    Extra(Extra),
+}
+
 /// What may stand at a key.
 #[derive(Clone, Copy)]
 pub enum Kind {
     /// A TOML integer from `least` to `most`.
     Whole {
         /// The least that is allowed.
-        least: i64,
+        least: u32,
         /// The greatest that is allowed.
-        most: i64,
+        most: u32,
     },
     /// A TOML integer or a number text: units, at most 10^15 in size.
     Value,
@@ -96,19 +112,21 @@ pub enum Kind {
     Moment,
     /// A string, without the blanks at its ends.
     Name,
-    /// A word of a list: its place in the list, counted from 0.
+    /// A word of a list.
     Word(Choice),
 }
 
 /// What is taken where a key is absent.
 #[derive(Clone, Copy)]
 pub enum Absent {
-    /// Nothing: the key must be there.
+    /// The table is refused: the key must be there.
     Refused,
     /// This number.
     Number(i64),
-    /// No name.
-    NoName,
+    /// What a word means.
+    Chosen(Chosen),
+    /// Nothing: the rule does without.
+    Nothing,
 }
 
 /// A key of a table.

@@ -3,9 +3,10 @@
 ghost use Rattle.std.specs.Prelude.{◌≡◌};
 ghost use Rattle.rule_keys.specs.Keys.{checks_of, keys_of};
 
-use crate::key::{Absent, Check, Choice, Key, KeyName, Kind, TableKind};
-use fix_point::MOST_UNITS;
-use time_text::MOST_TICKS;
+use crate::key::{Absent, Check, Choice, Chosen, Key, KeyName, Kind, TableKind};
+use crate::limits::{MOST_DECIMALS, MOST_HOLD, MOST_PER, MOST_PRICE, MOST_WEIGHT};
+use fix_point::{Extra, MOST_UNITS};
+use time_text::{MOST_TICKS, TimeForm};
 
 /// A key that must be there, or what is taken in its place.
 macro_rules! key {
@@ -45,7 +46,7 @@ const PER: Key = key!(
     Per,
     Kind::Whole {
         least: 1,
-        most: 10_000_000
+        most: MOST_PER
     },
     Absent::Number(1)
 );
@@ -59,28 +60,56 @@ const FROM: Key = key!(From, Kind::Moment, Absent::Number(-MOST_TICKS));
 /// The last tick that a rule speaks of.
 const TO: Key = key!(To, Kind::Moment, Absent::Number(MOST_TICKS));
 
+/// The price, which a rule may do without.
+const PRICE: Key = key!(
+    Price,
+    Kind::Whole {
+        least: 1,
+        most: MOST_PRICE
+    },
+    Absent::Nothing
+);
+
 /// The keys of a table, in the order in which they are looked at.
 pub fn keys_of(kind: TableKind) -> &'static [Key]
     ensures { result.now ≡ keys_of kind }
 {
     match kind {
         TableKind::Format => &[
-            key!(Decimals, Kind::Whole { least: 0, most: 6 }),
-            key!(Time, Kind::Name, Absent::NoName),
-            key!(Form, Kind::Word(Choice::Form), Absent::Number(0)),
-            key!(Separator, Kind::Word(Choice::Separator), Absent::Number(0)),
-            key!(Extra, Kind::Word(Choice::Extra), Absent::Number(0)),
+            key!(
+                Decimals,
+                Kind::Whole {
+                    least: 0,
+                    most: MOST_DECIMALS
+                }
+            ),
+            key!(Time, Kind::Name, Absent::Nothing),
+            key!(
+                Form,
+                Kind::Word(Choice::Form),
+                Absent::Chosen(Chosen::Form(TimeForm::Sec))
+            ),
+            key!(
+                Separator,
+                Kind::Word(Choice::Separator),
+                Absent::Chosen(Chosen::Separator(b','))
+            ),
+            key!(
+                Extra,
+                Kind::Word(Choice::Extra),
+                Absent::Chosen(Chosen::Extra(Extra::Refuse))
+            ),
             key!(
                 Hold,
                 Kind::Whole {
                     least: 1,
-                    most: 20_000
+                    most: MOST_HOLD
                 },
                 Absent::Number(4_096)
             ),
         ],
-        TableKind::Speed => &[SENSOR, MIN_RATE, MAX_RATE, PER, WINDOW],
-        TableKind::Swing => &[SENSOR, key!(Most, Kind::Amount), WINDOW],
+        TableKind::Speed => &[SENSOR, MIN_RATE, MAX_RATE, PER, WINDOW, PRICE],
+        TableKind::Swing => &[SENSOR, key!(Most, Kind::Amount), WINDOW, PRICE],
         TableKind::Drift => &[
             SENSOR,
             MIN_RATE,
@@ -88,6 +117,7 @@ pub fn keys_of(kind: TableKind) -> &'static [Key]
             PER,
             key!(Over, Kind::Span),
             WINDOW,
+            PRICE,
         ],
         TableKind::Range => &[
             SENSOR,
@@ -95,6 +125,7 @@ pub fn keys_of(kind: TableKind) -> &'static [Key]
             key!(Max, Kind::Value, Absent::Number(MOST_UNITS)),
             FROM,
             TO,
+            PRICE,
         ],
         TableKind::Trust => &[SENSOR, FROM, TO],
         TableKind::Weight => &[
@@ -103,7 +134,7 @@ pub fn keys_of(kind: TableKind) -> &'static [Key]
                 Weight,
                 Kind::Whole {
                     least: 1,
-                    most: 1_000
+                    most: MOST_WEIGHT
                 }
             ),
             FROM,
@@ -114,6 +145,7 @@ pub fn keys_of(kind: TableKind) -> &'static [Key]
             key!(Second, Kind::Name),
             key!(Min, Kind::Value),
             key!(Max, Kind::Value),
+            PRICE,
         ],
     }
 }

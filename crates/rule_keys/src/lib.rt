@@ -6,6 +6,7 @@ mod check;
 mod entries;
 mod key;
 mod keys;
+mod limits;
 mod read;
 #[cfg(test)]
 mod tests;
@@ -14,7 +15,11 @@ mod value;
 
 pub use cause::KeyCause;
 pub use entries::Entries;
-pub use key::{Absent, Check, Choice, Key, KeyName, Kind, TableKind};
+pub use key::{Absent, Check, Choice, Chosen, Key, KeyName, Kind, TableKind};
 pub use keys::keys_of;
-pub use read::{Scale, one_answer, read_table};
-pub use texts::{key_text, words_of};
+pub use limits::{
+    MOST_DECIMALS, MOST_HOLD, MOST_MILLIONTHS, MOST_PER, MOST_PRICE, MOST_REACH, MOST_SPAN,
+    MOST_WEIGHT,
+};
+pub use read::{Scale, an_answer, one_answer, read_table};
+pub use texts::{Word, key_text, words_of};

@@ -1,11 +1,11 @@
 //! A table of a rule file, read by the description of its keys.
-ghost use Rattle.std.specs.Prelude.{◌≡◌, ◌≢◌, ◌≤◌, List, Result, string_bytes, IfOk, IfErr};
+ghost use Rattle.std.specs.Prelude.{◌≡◌, ◌≤◌, List, Result, length, string_bytes, IfOk, IfErr};
 ghost use Rattle.std.specs.List.{list_all};
 ghost use Rattle.std.specs.Map.{keys_of as keys_of_map};
 ghost use Rattle.std.specs.Str.{bytes_eq};
 ghost use Rattle.toml.specs.Data.{Members};
 ghost use Rattle.toml.specs.View.{table_view};
-ghost use Rattle.words.specs.Answers.{UnlessMemory};
+ghost use Rattle.rule_keys.specs.declared.key.KeyName.{KeyName};
 ghost use Rattle.rule_keys.specs.Entries.{Fit, Meaning};
 ghost use Rattle.rule_keys.specs.Keys.{keys_of};
 ghost use Rattle.rule_keys.specs.Known.{is_known};
@@ -15,11 +15,12 @@ ghost use Rattle.rule_keys.specs.Words.{key_text};
 
 use crate::cause::KeyCause;
 use crate::check::check_all;
-use crate::entries::{Entries, Entry};
-use crate::key::{Absent, Key, KeyName, TableKind};
+use crate::entries::{Entries, Entry, Found, MOST_KEYS};
+use crate::key::{Absent, Key, TableKind};
 use crate::keys::{checks_of, keys_of};
 use crate::texts::key_text;
 use crate::value::read_value;
+use arrayvec::ArrayVec;
 use std::alloc::Global;
 use time_text::TimeForm;
 use toml::Table;
@@ -37,14 +38,14 @@ pub struct Scale {
 ///
 /// The keys of each kind, what may stand at them and what is taken where they are absent are those of
 /// `keys_of` in `specs/Keys.antt`. A table of `TableKind::Format` is read the same under any scale. The
-/// entries take memory for one entry a key, at most six, and lend their names from the table.
+/// entries lend their names from the table. It takes no memory: the allocator is handed on to the reader of
+/// times, which takes none either.
 ///
 /// # Errors
 ///
 /// The first cause in this order: `UnknownKey` for a key that the kind does not have; then key by key
 /// `MissingKey`, `WrongKind`, `BadNumber`, `OutOfLimit`; then `Order`, `ReachTooLarge` and `SameSensor` for
-/// the checks that the kind has. `Memory` where memory ran out, which is looked for only once no key is
-/// unknown.
+/// the checks that the kind has.
 pub fn read_table<'a>(
     alloc: Global,
     scale: Scale,
@@ -53,9 +54,8 @@ pub fn read_table<'a>(
 ) -> Result<Entries<'a>, KeyCause>
     requires decimals { scale.decimals ≤ 6 }
     ensures accepted { IfOk result (Spells scale kind (table_view table.now)) }
-    ensures refused { IfErr result (λ cause. cause ≢ KeyCause.Memory → Refuses scale kind (table_view table.now) cause) }
-    ensures only { (answer : Result (List (KeyName × Meaning)) KeyCause) → Reads scale kind (table_view table.now) answer →
-        UnlessMemory KeyCause.Memory (λ given. given ≡ answer) result }
+    ensures refused { IfErr result (Refuses scale kind (table_view table.now)) }
+    ensures only { (answer : Result (List (KeyName × Meaning)) KeyCause) → Reads scale kind (table_view table.now) answer → result ≡ answer }
     ensures fit { IfOk result (Fit (keys_of kind)) }
 {
     // The law behind `only`; it does nothing.
@@ -71,7 +71,7 @@ fn table_entries<'a>(
     table: &'a Table,
 ) -> Result<Entries<'a>, KeyCause>
     requires decimals { scale.decimals ≤ 6 }
-    ensures answer { UnlessMemory KeyCause.Memory (Reads scale kind (table_view table.now)) result }
+    ensures answer { Reads scale kind (table_view table.now) result }
     ensures fit { IfOk result (Fit (keys_of kind)) }
 {
     let keys = keys_of(kind);
@@ -92,6 +92,14 @@ pub fn one_answer()
 {
     fix_point::one_answer();
     time_text::one_answer();
+}
+
+/// Every table has an answer: its entries, or a cause to refuse it.
+pub fn an_answer(alloc: Global, scale: Scale, kind: TableKind, table: &Table)
+    requires { scale.decimals ≤ 6 }
+    ensures { (answer : Result (List (KeyName × Meaning)) KeyCause) × Reads scale kind (table_view table.now) answer }
+{
+    let _answer = table_entries(alloc, scale, kind, table);
 }
 
 /// Whether each key of the table is one of these.
@@ -121,18 +129,18 @@ fn read_keys<'a>(
     scale: Scale,
     keys: &[Key],
     table: &'a Table,
-) -> Result<Vec<(KeyName, Entry<'a>)>, KeyCause>
-    requires { scale.decimals ≤ 6 }
-    ensures { UnlessMemory KeyCause.Memory (ReadsKeys scale (table_view table.now) keys.now) (seen_all result) }
+) -> Result<ArrayVec<Found<'a>, MOST_KEYS>, KeyCause>
+    requires decimals { scale.decimals ≤ 6 }
+    requires few { length keys.now ≤ MOST_KEYS }
+    ensures { ReadsKeys scale (table_view table.now) keys.now (seen_all result) }
 {
-    let Ok(mut found) = Vec::with_capacity(alloc, keys.len()) else {
-        return Err(KeyCause::Memory);
-    };
+    let mut found = ArrayVec::new();
     for key in keys {
         let entry = read_key(alloc, scale, *key, table)?;
-        let Ok(()) = found.push((key.name, entry)) else {
-            return Err(KeyCause::Memory);
-        };
+        found.push(Found {
+            key: key.name,
+            entry,
+        });
     }
     Ok(found)
 }
@@ -160,6 +168,7 @@ fn absent_entry<'a>(absent: Absent) -> Result<Entry<'a>, KeyCause>
     match absent {
         Absent::Refused => Err(KeyCause::MissingKey),
         Absent::Number(number) => Ok(Entry::Number(number)),
-        Absent::NoName => Ok(Entry::NoName),
+        Absent::Chosen(chosen) => Ok(Entry::Chosen(chosen)),
+        Absent::Nothing => Ok(Entry::Nothing),
     }
 }

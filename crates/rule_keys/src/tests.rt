@@ -1,13 +1,16 @@
+//! Tables of each kind, and what is read at their keys.
 ghost use Rattle.std.specs.Prelude.{◌≡◌};
 
 use crate::KeyCause::{
     BadNumber, MissingKey, Order, OutOfLimit, ReachTooLarge, SameSensor, UnknownKey, WrongKind,
 };
 use crate::KeyName::{
-    Decimals, Extra, First, Form, From, Hold, Max, Min, Most, Over, Per, Second, Sensor, Separator,
-    To, Weight, Window,
+    Decimals, First, Form, From, Hold, Max, Min, Most, Over, Per, Price, Second, Sensor, To,
+    Weight, Window,
 };
-use crate::{Choice, KeyCause, KeyName, Scale, TableKind, key_text, keys_of, read_table, words_of};
+use crate::{
+    Choice, KeyCause, KeyName, Scale, TableKind, an_answer, key_text, keys_of, read_table, words_of,
+};
 use std::alloc::Global;
 use std::test::Fail;
 use time_text::TimeForm;
@@ -35,6 +38,9 @@ fn number_in(
 /// A format with all words.
 const FORMAT: &str = "decimals = 2\nform = \"civil\"\nseparator = \"\\t\"\nextra = \"round\"";
 
+/// A swing rule that has a price.
+const SWING: &str = "sensor = \"x\"\nmost = \"0.01\"\nwindow = 1\nprice = 1000";
+
 /// A speed rule of the least window.
 const SPEED: &str = "sensor = \"x\"\nmin = \"-0.5\"\nmax = 1\nwindow = \"1e-9\"";
 
@@ -50,20 +56,15 @@ const RANGE: &str = "sensor = \"x\"\nmax = \"1.25\"";
 /// A table of each kind, a key of it, and what is read there.
 const TABLES: [(TableKind, &str, KeyName, i64); 17] = [
     (TableKind::Format, FORMAT, Decimals, 2),
-    (TableKind::Format, FORMAT, Form, 5),
-    (TableKind::Format, FORMAT, Separator, 2),
-    (TableKind::Format, FORMAT, Extra, 1),
+    (TableKind::Format, FORMAT, Form, 0),
     (TableKind::Format, FORMAT, Hold, 4096),
     (TableKind::Speed, SPEED, Min, -500_000),
     (TableKind::Speed, SPEED, Per, 1),
     (TableKind::Speed, SPEED, Window, 1),
     (TableKind::Speed, SPEED, Most, 0),
-    (
-        TableKind::Swing,
-        "sensor = \"x\"\nmost = \"0.01\"\nwindow = 1",
-        Most,
-        1,
-    ),
+    (TableKind::Speed, SPEED, Price, 0),
+    (TableKind::Swing, SWING, Most, 1),
+    (TableKind::Swing, SWING, Price, 1000),
     (TableKind::Drift, DRIFT, Over, 60_000_000_000),
     (TableKind::Range, RANGE, Min, -1_000_000_000_000_000),
     (TableKind::Range, RANGE, Max, 125),
@@ -137,6 +138,9 @@ fn a_table_for_each_cause(rt: HostRuntime) {
         ),
         (TableKind::Format, "decimals = 7", OutOfLimit),
         (TableKind::Format, "decimals = 2\nform = \"\"", OutOfLimit),
+        (TableKind::Format, "decimals = 2\nform = 1", WrongKind),
+        (TableKind::Between, "price = 0", MissingKey),
+        (TableKind::Weight, "price = 1", UnknownKey),
         (TableKind::Trust, "sensor = \"x\"\nfrom = 2\nto = 1", Order),
         (TableKind::Speed, far, ReachTooLarge),
         (TableKind::Between, alike, SameSensor),
@@ -164,8 +168,11 @@ fn names_and_words(rt: HostRuntime) -> Result<(), Fail> {
     assert_eq!(rt; name(Second), Some(b"b c".as_slice()));
     assert_eq!(rt; name(Sensor), None);
 
-    assert_eq!(rt; keys_of(TableKind::Between).len(), 4);
+    assert_eq!(rt; keys_of(TableKind::Between).len(), 5);
     assert_eq!(rt; key_text(First), "first");
-    assert_eq!(rt; words_of(Choice::Extra), ["refuse", "round"].as_slice());
+    let words = words_of(Choice::Extra);
+    assert_eq!(rt; words.len(), 2);
+    assert_eq!(rt; words.first().map(|word| word.text), Some("refuse"));
+    an_answer(rt.alloc(), in_form(TimeForm::Sec), TableKind::Trust, &table);
     Ok(())
 }

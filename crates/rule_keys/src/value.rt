@@ -7,19 +7,14 @@ ghost use Rattle.rule_keys.specs.Values.{IsAtLeast, ReadsChosen, ReadsInteger, R
 use crate::cause::KeyCause;
 use crate::entries::Entry;
 use crate::key::{Choice, Kind};
+use crate::limits::{MOST_MILLIONTHS, MOST_SPAN};
 use crate::read::Scale;
-use crate::texts::place_of;
+use crate::texts::meaning_of;
 use fix_point::{Extra, MOST_UNITS};
 use itoa::Buffer;
 use std::alloc::Global;
 use time_text::{TimeForm, ticks, trimmed_text};
 use toml::Value;
-
-/// The greatest size of a rate, in millionths.
-const MOST_MILLIONTHS: u64 = 1_000_000_000_000_000;
-
-/// The longest span in ticks.
-const MOST_SPAN: u64 = 100_000_000_000_000_000;
 
 /// The decimals of a rate.
 const RATE_DECIMALS: u32 = 6;
@@ -45,7 +40,7 @@ pub(crate) fn read_value<'a>(
         Kind::Span => numbered(at_least(1, scaled(TICK_DECIMALS, MOST_SPAN, value))),
         Kind::Moment => numbered(moment(alloc, scale.form, value)),
         Kind::Name => name(value),
-        Kind::Word(choice) => numbered(word(choice, value)),
+        Kind::Word(choice) => word(choice, value),
     }
 }
 
@@ -60,11 +55,11 @@ fn numbered<'a>(number: Result<i64, KeyCause>) -> Result<Entry<'a>, KeyCause>
 }
 
 /// A TOML integer within limits.
-fn whole(least: i64, most: i64, value: &Value) -> Result<i64, KeyCause>
+fn whole(least: u32, most: u32, value: &Value) -> Result<i64, KeyCause>
     ensures { ReadsWhole least most (view value.now) result }
 {
     match value {
-        Value::Integer(number) => within(least, most, *number),
+        Value::Integer(number) => within(i64::from(least), i64::from(most), *number),
         _ => Err(KeyCause::WrongKind),
     }
 }
@@ -161,9 +156,9 @@ fn time(alloc: Global, form: TimeForm, text: &[u8]) -> Result<i64, KeyCause>
     }
 }
 
-/// The place of a word in its list.
-fn word(choice: Choice, value: &Value) -> Result<i64, KeyCause>
-    ensures { ReadsWord choice (view value.now) result }
+/// What a word of a list means.
+fn word<'a>(choice: Choice, value: &Value) -> Result<Entry<'a>, KeyCause>
+    ensures { ReadsWord choice (view value.now) (meant result) }
 {
     match value {
         Value::String(word) => chosen(choice, word.as_str()),
@@ -171,12 +166,12 @@ fn word(choice: Choice, value: &Value) -> Result<i64, KeyCause>
     }
 }
 
-/// The place of this word in its list.
-fn chosen(choice: Choice, word: &str) -> Result<i64, KeyCause>
-    ensures { ReadsChosen choice word.now result }
+/// What this word of a list means.
+fn chosen<'a>(choice: Choice, word: &str) -> Result<Entry<'a>, KeyCause>
+    ensures { ReadsChosen choice word.now (meant result) }
 {
-    match place_of(choice, word) {
-        Some(place) => Ok(place as i64),
+    match meaning_of(choice, word) {
+        Some(chosen) => Ok(Entry::Chosen(chosen)),
         None => Err(KeyCause::OutOfLimit),
     }
 }

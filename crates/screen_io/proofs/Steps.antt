@@ -57,7 +57,7 @@ Gains-step a b c bytes done count s t =
     let u : Gains b (take count (drop done bytes)) c = rw (take_all (length bytes - done) (drop done bytes) short) at t in
     rw take-add (Gains-more a b c (take done bytes) (take count (drop done bytes)) s u)
 
--- a read gives the front of what is left, as much as fits, and goes on behind it
+-- a read gives the front of what is left, as much as fits, and goes on after it
 pub Reads-front :
     (bytes shown copied buffer : List ℕ) (position count : ℕ) →
     shown ≡ bytes →

@@ -1,3 +1,4 @@
+//! Bounds, their names, and flow on them.
 use crate::place::End;
 
 /// Whether a bound limits a rise or a fall.

@@ -1,3 +1,4 @@
+//! Places of readings, and the ends of bounds.
 /// The place of a reading in a table.
 #[derive(Clone, Copy, Debug, PartialEq, Eq)]
 pub struct Place {

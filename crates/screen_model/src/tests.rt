@@ -1,3 +1,4 @@
+//! The lists of the model, and its laws.
 use crate::{
     Bound, BoundList, BoundName, End, FlowItem, FlowList, NameList, Place, Places, Series, Side,
     best_costs_least, best_over_parts, blocked_forbids, costs_over_parts, cycles_over_parts,

@@ -1,11 +1,11 @@
 -- The laws of what commands answer.
 use Rattle.std.proofs.Common.{◌≡◌, ◌≢◌, inl, inr, ℕ, List, Some, None, Ok, refl, sym, ap, subst, ◌∙◌, length, ◌≤◌, ◌+◌}
-use Rattle.rule_file.specs.declared.fault.RuleFault.{RuleFault}
 use Rattle.rule_file.specs.declared.read.TheConstants.{LONGEST as longest_rules}
 use Rattle.narrow_csv.specs.declared.fault.TableFault.{TableFault}
 use Rattle.narrow_csv.specs.declared.table.Row.{Row}
 use Rattle.narrow_csv.specs.declared.read.TheConstants.{LONGEST as longest_readings}
 use Rattle.narrow_csv.specs.ReadingsFile.{Reads as ReadsReadings}
+use Rattle.screen_tool.specs.declared.narrow.RulesFault.{RulesFault}
 use Rattle.screen_tool.specs.declared.command.Command.{Command}
 use Rattle.screen_tool.specs.declared.command.Command.TheVariants.{Global}
 use Rattle.screen_tool.specs.declared.ends.Inputs.{Inputs}
@@ -32,7 +32,7 @@ readings_have P found bytes answer at_long at_refused at_unchanged at_repair =
     (λ rows. rows_have P found rows answer (at_unchanged rows) at_repair)
 
 pub global_has : (P : Answer → Type 0) (bytes : Inputs (List ℕ)) (answer : Answer)
-    → P rules_too_long → ((fault : RuleFault) → P (rules_refused fault)) → P readings_too_long → ((fault : TableFault) → P (readings_refused fault))
+    → P rules_too_long → ((fault : RulesFault) → P (rules_refused fault)) → P readings_too_long → ((fault : TableFault) → P (readings_refused fault))
     → ((found : WholeSpeed) (rows : List Row) → P (unchanged found rows)) → P needs_repair → AnswersGlobal bytes answer → P answer
 global_has P bytes answer at_long at_refused table_long table_refused at_unchanged at_repair =
     after_has longest_rules ReadsRules rules_too_long rules_refused P bytes.rules (λ found. AfterReadings found bytes.readings (AnswersRows found)) answer

@@ -15,7 +15,8 @@ use Rattle.narrow_csv.specs.Rows.{AreRows, IsSmall, Rises, places_from, places, 
 use Rattle.screen_tool.specs.declared.speed.WholeSpeed.{WholeSpeed}
 use Rattle.screen_tool.specs.Bounds.{bounds, size_bounds, speed_bounds, later_bounds, pair_bounds, is_within, place_in, greatest_step, least_step}
 use Rattle.screen_tool.specs.Changes.{ChangesWithin, ChangesAllWithin, MeetsSpeed}
-use Rattle.words.proofs.Products.{at_most_floor as at_most_floor_of}
+use Rattle.words.proofs.Lists.{all_append, all_of_append}
+use Rattle.words.proofs.Products.{at_most_floor as at_most_floor_of, neg_mul, mul_neg}
 use Rattle.screen_tool.proofs.Rising.{rises_without}
 
 -- a change is at most a quotient that is rounded down exactly where so many times the change are at most the dividend
@@ -23,12 +24,8 @@ at_most_floor : (m d : ℤ) (p : ℕ) → 0 < p → (d ≤ℤ int_div_euclid m (
 at_most_floor m d p h = subst (λ (n : ℤ). (d ≤ℤ int_div_euclid m (pos p)) ↔ (n ≤ℤ m)) (*ℤ_comm d (pos p)) (at_most_floor_of m d p h)
 
 -- P holds of each member of two lists, one after the other, exactly where it does of each of both
-pub all_append : {X : Type 0} (P : X → Type 0) (xs ys : List X) → AllByRecursion P (xs ++ ys) ↔ (AllByRecursion P xs × AllByRecursion P ys)
-all_append P [] ys = (λ all. (tt, all), λ all. all.1)
-all_append P (x ∷ xs) ys = (
-  λ all. let rest = (all_append P xs ys).0 all.1 in ((all.0, rest.0), rest.1),
-  λ all. (all.0.0, (all_append P xs ys).1 (all.0.1, all.1)),
-)
+all_append_exactly : {X : Type 0} (P : X → Type 0) (xs ys : List X) → AllByRecursion P (xs ++ ys) ↔ (AllByRecursion P xs × AllByRecursion P ys)
+all_append_exactly P xs ys = (all_of_append P xs ys, λ both. all_append P xs ys both.0 both.1)
 
 -- the readings at the places of these rows have the rows' values
 abbrev pub Shows : List Place → List ℤ → ℕ → List Row → Type 0
@@ -36,30 +33,19 @@ Shows at series number [] = Unit {0}
 Shows at series number (row ∷ rows) = (reading_at at series (place_in number) ≡ row.value) × Shows at series (number + 1) rows
 
 -- a reading in an earlier row changes nothing of the later ones
-shows_behind : (earlier : ℕ) (v : ℤ) (at : List Place) (series : List ℤ) (number : ℕ) (rows : List Row) → earlier < number → Shows at series number rows → Shows (place_in earlier ∷ at) (v ∷ series) number rows
-shows_behind earlier v at series number [] h shows = tt
-shows_behind earlier v at series number (row ∷ rows) h shows =
+shows_after : (earlier : ℕ) (v : ℤ) (at : List Place) (series : List ℤ) (number : ℕ) (rows : List Row) → earlier < number → Shows at series number rows → Shows (place_in earlier ∷ at) (v ∷ series) number rows
+shows_after earlier v at series number [] h shows = tt
+shows_after earlier v at series number (row ∷ rows) h shows =
     let other : (number == earlier) ≡ false = grind (arith, nat_tests) in
-    (rw other shows.0, shows_behind earlier v at series (number + 1) rows (omega arith) shows.1)
+    (rw other shows.0, shows_after earlier v at series (number + 1) rows (omega arith) shows.1)
 
 shows_all : (number : ℕ) (rows : List Row) → Shows (places_from number rows) (values rows) number rows
 shows_all number [] = tt
 shows_all number (row ∷ rows) =
     let same : (number == number) ≡ true = grind (arith, nat_tests) in
-    (rw same refl, shows_behind number row.value (places_from (number + 1) rows) (values rows) (number + 1) rows (omega arith) (shows_all (number + 1) rows))
+    (rw same refl, shows_after number row.value (places_from (number + 1) rows) (values rows) (number + 1) rows (omega arith) (shows_all (number + 1) rows))
 
--- signs in products and differences
-neg_mul : (a b : ℤ) → neg_ℤ a *ℤ b ≡ neg_ℤ (a *ℤ b)
-neg_mul (pos zero) (pos b) = omega (arith, ints)
-neg_mul (pos zero) (negsuc b) = omega (arith, ints)
-neg_mul (pos (suc a)) (pos b) = refl
-neg_mul (pos (suc a)) (negsuc b) = sym (neg_ℤ-neg_ℤ (pos (suc a * suc b)))
-neg_mul (negsuc a) (pos b) = sym (neg_ℤ-neg_ℤ (pos (suc a * b)))
-neg_mul (negsuc a) (negsuc b) = refl
-
-mul_neg : (a b : ℤ) → a *ℤ neg_ℤ b ≡ neg_ℤ (a *ℤ b)
-mul_neg a b = *ℤ_comm a (neg_ℤ b) ∙ neg_mul b a ∙ ap neg_ℤ (*ℤ_comm b a)
-
+-- signs in differences
 turned : (a b : ℤ) → a -ℤ b ≡ neg_ℤ (b -ℤ a)
 turned a b = omega (arith, ints)
 
@@ -108,22 +94,22 @@ later_kept rule at series n m row [] some rising is_row shows = (λ _. tt, λ _.
 later_kept rule at series n m row (later ∷ rows) some rising is_row shows =
     let pair = pair_kept rule at series n m row later some rising.0 is_row shows.0 in
     let tail = later_kept rule at series n (m + 1) row rows some (rises_without row later rows rising) is_row shows.1 in
-    let both = all_append (Keeps at series) (pair_bounds rule n row m later) (later_bounds rule n row (m + 1) rows) in (
+    let both = all_append_exactly (Keeps at series) (pair_bounds rule n row m later) (later_bounds rule n row (m + 1) rows) in (
       λ kept. let parts = both.0 kept in (pair.0 parts.0, tail.0 parts.1),
       λ within. both.1 (pair.1 within.0, tail.1 within.1),
     )
 
-rises_behind : (row : Row) (rows : List Row) → Rises (row ∷ rows) → Rises rows
-rises_behind row [] rising = tt
-rises_behind row (next ∷ rows) rising = rising.1
+rises_after : (row : Row) (rows : List Row) → Rises (row ∷ rows) → Rises rows
+rises_after row [] rising = tt
+rises_after row (next ∷ rows) rising = rising.1
 
 -- each row with each later one
 speed_kept : (rule : WholeSpeed) (at : List Place) (series : List ℤ) (n : ℕ) (rows : List Row) → 0 < rule.per → Rises rows → Shows at series n rows → AllByRecursion (Keeps at series) (speed_bounds rule n rows) ↔ MeetsSpeed rule rows
 speed_kept rule at series n [] some rising shows = (λ _. tt, λ _. tt)
 speed_kept rule at series n (row ∷ rows) some rising shows =
     let later = later_kept rule at series n (n + 1) row rows some rising shows.0 shows.1 in
-    let tail = speed_kept rule at series (n + 1) rows some (rises_behind row rows rising) shows.1 in
-    let both = all_append (Keeps at series) (later_bounds rule n row (n + 1) rows) (speed_bounds rule (n + 1) rows) in (
+    let tail = speed_kept rule at series (n + 1) rows some (rises_after row rows rising) shows.1 in
+    let both = all_append_exactly (Keeps at series) (later_bounds rule n row (n + 1) rows) (speed_bounds rule (n + 1) rows) in (
       λ kept. let parts = both.0 kept in (later.0 parts.0, tail.0 parts.1),
       λ meets. both.1 (later.1 meets.0, tail.1 meets.1),
     )
@@ -151,7 +137,7 @@ obeys_exactly rule rows are some =
     let series = values rows in
     let shows = shows_all 1 rows in
     let speed = speed_kept rule at series 1 rows (omega arith) are.rise shows in
-    let both = all_append (Keeps at series) (size_bounds 1 rows) (speed_bounds rule 1 rows) in
+    let both = all_append_exactly (Keeps at series) (size_bounds 1 rows) (speed_bounds rule 1 rows) in
     let priced = unpriced at series (bounds rule rows) in (
       λ meets. priced.0 (both.1 (size_kept at series 1 rows are.small shows, speed.1 meets)),
       λ obeys. speed.0 (both.0 (priced.1 obeys)).1,

@@ -1,12 +1,14 @@
 -- A text is read as one narrow rule, or refused for one fault.
 use mathlib.Core.HLevel.{is_prop→PathP}
-use Rattle.std.proofs.Common.{◌≡◌, ℕ, ◌*◌, ◌^◌, ℤ, pos, ◌*ℤ◌, List, [], ◌∷◌, Result, Ok, Err, inl, inr, sym, ap, ◌∙◌, subst, arith}
+use Rattle.std.proofs.Common.{◌≡◌, ℕ, ◌*◌, ◌^◌, ℤ, pos, ◌*ℤ◌, List, [], ◌∷◌, Result, Ok, Err, refl, sym, ap, ◌∙◌, subst, arith}
 use Rattle.std.proofs.Props.{props}
 use Rattle.std.proofs.lemmas.Int.{ints}
 use Rattle.rule_file.specs.declared.fault.RuleFault.{RuleFault}
 use Rattle.rule_file.specs.declared.rules.SpeedRule.{SpeedRule}
 use Rattle.rule_file.specs.declared.rules.Rules.{Rules}
 use Rattle.rule_file.specs.File.{ReadsFile}
+use Rattle.screen_tool.specs.declared.narrow.RulesFault.{RulesFault}
+use Rattle.screen_tool.specs.declared.narrow.RulesFault.TheVariants.{Refused, NotBuilt}
 use Rattle.screen_tool.specs.declared.speed.WholeSpeed.{WholeSpeed}
 use Rattle.screen_tool.specs.Limits.{IsWithinLimits}
 use Rattle.screen_tool.specs.Narrow.{IsWholeSpeed, IsNarrow, Reads}
@@ -60,17 +62,17 @@ one_speed law bytes one other p q =
     let same = same_rules law bytes q.0 p.0 q.1 p.1 in
     one_narrow p.0 one other p.2 (subst (λ given. IsNarrow given other) same q.2)
 
-never_refused : FilesAreOne → (bytes : List ℕ) (speed : WholeSpeed) (fault : RuleFault) → Reads bytes (Ok speed) → Reads bytes (Err fault) → ⊥
-never_refused law bytes speed fault p (inl q) = not_refused law bytes p.0 fault p.1 q
-never_refused law bytes speed fault p (inr q) =
-    let same = same_rules law bytes p.0 q.0.0 p.1 q.0.1 in
-    q.0.2 speed (subst (λ given. IsNarrow given speed) same p.2)
+never_refused : FilesAreOne → (bytes : List ℕ) (speed : WholeSpeed) (fault : RulesFault) → Reads bytes (Ok speed) → Reads bytes (Err fault) → ⊥
+never_refused law bytes speed (Refused fault) p q = not_refused law bytes p.0 fault p.1 q
+never_refused law bytes speed NotBuilt p q =
+    let same = same_rules law bytes p.0 q.0 p.1 q.1 in
+    q.2 speed (subst (λ given. IsNarrow given speed) same p.2)
 
-one_refusal : FilesAreOne → (bytes : List ℕ) (one other : RuleFault) → Reads bytes (Err one) → Reads bytes (Err other) → one ≡ other
-one_refusal law bytes one other (inl p) (inl q) = same_fault law bytes one other p q
-one_refusal law bytes one other (inl p) (inr q) = absurd (not_refused law bytes q.0.0 one q.0.1 p)
-one_refusal law bytes one other (inr p) (inl q) = absurd (not_refused law bytes p.0.0 other p.0.1 q)
-one_refusal law bytes one other (inr p) (inr q) = p.1 ∙ sym q.1
+one_refusal : FilesAreOne → (bytes : List ℕ) (one other : RulesFault) → Reads bytes (Err one) → Reads bytes (Err other) → one ≡ other
+one_refusal law bytes (Refused one) (Refused other) p q = ap Refused (same_fault law bytes one other p q)
+one_refusal law bytes (Refused one) NotBuilt p q = absurd (not_refused law bytes q.0 one q.1 p)
+one_refusal law bytes NotBuilt (Refused other) p q = absurd (not_refused law bytes p.0 other p.1 q)
+one_refusal law bytes NotBuilt NotBuilt p q = refl
 
 pub narrow_one : FilesAreOne → AreOne Reads
 narrow_one law bytes (Ok one) (Ok other) p q = ap Ok (one_speed law bytes one other p q)

@@ -10,7 +10,7 @@ pub rises_without : (row next : Row) (rows : List Row) → Rises (row ∷ next �
 rises_without row next [] rise = tt
 rises_without row next (later ∷ rows) rise = (omega arith, rise.1.1)
 
--- behind a row outside the window all are outside
+-- after a row outside the window all are outside
 pub all_outside : (rule : WholeSpeed) (row next : Row) (rows : List Row) → Rises (row ∷ next ∷ rows) → rule.window < next.seconds - row.seconds → ChangesAllWithin rule row (next ∷ rows)
 all_outside rule row next [] rise far = (λ near. absurd (omega arith), tt)
 all_outside rule row next (later ∷ rows) rise far =

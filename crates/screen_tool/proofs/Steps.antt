@@ -4,7 +4,6 @@ use Rattle.std.proofs.lemmas.Bool.{false≢true}
 use Rattle.screen_io.specs.Faults.{Rose, HasCause}
 use Rattle.screen_io.specs.Sink.{Gains, GainsPrefix}
 use Rattle.screen_io.specs.declared.source.Failed.{Failed}
-use Rattle.rule_file.specs.declared.fault.RuleFault.{RuleFault}
 use Rattle.rule_file.specs.declared.read.TheConstants.{LONGEST as longest_rules}
 use Rattle.narrow_csv.specs.declared.fault.TableFault.{TableFault}
 use Rattle.narrow_csv.specs.declared.table.Row.{Row}
@@ -12,6 +11,7 @@ use Rattle.narrow_csv.specs.declared.read.TheConstants.{LONGEST as longest_readi
 use Rattle.narrow_csv.specs.ReadingsFile.{Reads as ReadsReadings}
 use Rattle.narrow_csv.specs.Rows.{places, values}
 use Rattle.screen_model.specs.Obeys.{Obeys, without_prices}
+use Rattle.screen_tool.specs.declared.narrow.RulesFault.{RulesFault}
 use Rattle.screen_tool.specs.declared.command.Command.{Command}
 use Rattle.screen_tool.specs.declared.ends.Inputs.{Inputs}
 use Rattle.screen_tool.specs.declared.ends.Outputs.{Outputs}
@@ -56,7 +56,7 @@ module _ {S : Type 0} (left : S → Option (List ℕ)) (source_faults : S → �
       → Stops left source_faults Happens AnswersGlobal ins (record ins { rules = rules })
   at_rules Happens ins rules p = inl (record { came = p.0; needed = needs_rules; taken = p.1; happens = p.2; readings = refl; cert = refl })
 
-  pub rules_end : (ins : Inputs S) (rules : S) (given : StepFault RuleFault) → IsStep left source_faults longest_rules ReadsRules ins.rules rules (Err given)
+  pub rules_end : (ins : Inputs S) (rules : S) (given : StepFault RulesFault) → IsStep left source_faults longest_rules ReadsRules ins.rules rules (Err given)
       → Ends left source_faults AnswersGlobal ins (record ins { rules = rules }) (rules_ending given)
   rules_end ins rules fault.TooLong p = (
     rules_too_long,

@@ -47,6 +47,7 @@ narrow_same rules speed other narrow sensor min max per window =
           max = whole.max ∙ ap (λ (n : ℤ). n *ℤ pos (10 ^ 6)) max;
           per = whole.per ∙ per;
           window = whole.window ∙ ap (λ (n : ℕ). pos (n * 10 ^ 9)) window;
+          price = whole.price;
         },
       );
     }

@@ -1,6 +1,5 @@
 -- To be believed: what every command answers where its rules or its readings are refused.
 use Rattle.std.specs.Prelude.{ℕ, ◌+◌, List, None}
-use Rattle.rule_file.specs.declared.fault.RuleFault.{RuleFault}
 use Rattle.rule_file.specs.Fault.{of_the_file as of_the_rules}
 use Rattle.narrow_csv.specs.Fault.{of_the_file as of_the_readings}
 use Rattle.rule_file.specs.declared.read.TheConstants.{LONGEST as longest_rules}
@@ -10,9 +9,11 @@ use Rattle.narrow_csv.specs.declared.fault.TableCause.TheVariants as readings
 use Rattle.narrow_csv.specs.declared.table.Row.{Row}
 use Rattle.narrow_csv.specs.declared.read.TheConstants.{LONGEST as longest_readings}
 use Rattle.narrow_csv.specs.ReadingsFile.{Reads as ReadsReadings}
+use Rattle.screen_tool.specs.declared.narrow.RulesFault.{RulesFault}
+use Rattle.screen_tool.specs.declared.narrow.RulesFault.TheVariants.{Refused, NotBuilt}
 use Rattle.screen_tool.specs.declared.speed.WholeSpeed.{WholeSpeed}
 use Rattle.screen_tool.specs.declared.status.Outcome.{Outcome}
-use Rattle.screen_tool.specs.declared.status.Outcome.TheVariants.{RulesRefused, ReadingsRefused}
+use Rattle.screen_tool.specs.declared.status.Outcome.TheVariants.{RulesRefused, RulesNotBuilt, ReadingsRefused}
 use Rattle.screen_tool.specs.Answer.{Extent, Whole, Begun, Unread, Answer, AfterFile, AreOne}
 use Rattle.screen_tool.specs.Narrow.{Reads as ReadsRules}
 
@@ -28,8 +29,12 @@ without_texts outcome rules readings = record {
 abbrev pub rules_too_long : Answer
 rules_too_long = without_texts (RulesRefused (of_the_rules rules.FileTooLong)) (Begun (longest_rules + 1)) Unread
 
-abbrev pub rules_refused : RuleFault → Answer
-rules_refused fault = without_texts (RulesRefused fault) Whole Unread
+abbrev pub refused_rules : RulesFault → Outcome
+refused_rules (Refused fault) = RulesRefused fault
+refused_rules NotBuilt = RulesNotBuilt
+
+abbrev pub rules_refused : RulesFault → Answer
+rules_refused fault = without_texts (refused_rules fault) Whole Unread
 
 abbrev pub readings_too_long : Answer
 readings_too_long = without_texts (ReadingsRefused (of_the_readings readings.FileTooLong)) Whole (Begun (longest_readings + 1))

@@ -1,13 +1,12 @@
 -- To be believed: the rules that the program works with so far.
-use Rattle.std.specs.Prelude.{◌≡◌, ◌⊎◌, ℕ, ◌*◌, ◌^◌, pos, ◌*ℤ◌, List, [], ◌∷◌, Option, Some, None, Result, Ok, Err, codes}
+use Rattle.std.specs.Prelude.{◌≡◌, ℕ, ◌*◌, ◌^◌, pos, ◌*ℤ◌, List, [], ◌∷◌, Option, Some, None, Result, Ok, Err, codes}
 use Rattle.time_text.specs.declared.form.TimeForm.TheVariants.{Sec}
-use Rattle.rule_file.specs.declared.fault.RuleCause.TheVariants.{NotBuilt}
-use Rattle.rule_file.specs.declared.fault.RuleFault.{RuleFault}
 use Rattle.rule_file.specs.declared.rules.Format.{Format}
 use Rattle.rule_file.specs.declared.rules.SpeedRule.{SpeedRule}
 use Rattle.rule_file.specs.declared.rules.Rules.{Rules}
-use Rattle.rule_file.specs.Fault.{of_the_file}
 use Rattle.rule_file.specs.File as rule_file
+use Rattle.screen_tool.specs.declared.narrow.RulesFault.{RulesFault}
+use Rattle.screen_tool.specs.declared.narrow.RulesFault.TheVariants.{Refused, NotBuilt}
 use Rattle.screen_tool.specs.declared.speed.WholeSpeed.{WholeSpeed}
 
 -- the time column is the first one, which is `time` where it is named
@@ -22,13 +21,14 @@ pub record IsPlain (format : Format) : Type 0 where
   pub form : format.form ≡ Sec
   pub separator : format.separator ≡ 44
 
--- The rule has whole units and whole seconds: these.
+-- The rule has whole units and whole seconds, these, and no price.
 pub record IsWholeSpeed (rule : SpeedRule) (speed : WholeSpeed) : Type 0 where
   pub sensor : rule.sensor ≡ speed.sensor
   pub min : rule.min.millionths ≡ speed.min *ℤ pos (10 ^ 6)
   pub max : rule.max.millionths ≡ speed.max *ℤ pos (10 ^ 6)
   pub per : rule.min.per ≡ speed.per
   pub window : rule.window ≡ pos (speed.window * 10 ^ 9)
+  pub price : rule.price ≡ 0
 
 -- there are no rules but speed rules
 pub record HasSpeedsAlone (rules : Rules) : Type 0 where
@@ -50,6 +50,7 @@ abbrev pub IsOfOtherRules : List ℕ → Type 0
 IsOfOtherRules bytes = (rules : Rules) × rule_file.Spells bytes rules × ((speed : WholeSpeed) → ¬ IsNarrow rules speed)
 
 -- What the bytes are read as: a rule file of this rule; or they are refused, as a rule file or for what it says.
-abbrev pub Reads : List ℕ → Result WholeSpeed RuleFault → Type 0
+abbrev pub Reads : List ℕ → Result WholeSpeed RulesFault → Type 0
 Reads bytes (Ok speed) = (rules : Rules) × rule_file.Spells bytes rules × IsNarrow rules speed
-Reads bytes (Err fault) = rule_file.Refuses bytes fault ⊎ (IsOfOtherRules bytes × (fault ≡ of_the_file NotBuilt))
+Reads bytes (Err (Refused fault)) = rule_file.Refuses bytes fault
+Reads bytes (Err NotBuilt) = IsOfOtherRules bytes

@@ -7,10 +7,9 @@ use Rattle.narrow_csv.specs.declared.fault.TableCause.TheVariants as readings
 use Rattle.screen_tool.specs.declared.status.Ending.{Ending}
 use Rattle.screen_tool.specs.declared.status.Ending.TheVariants.{Ended, ReadFault, WriteFault, Memory}
 use Rattle.screen_tool.specs.declared.status.Outcome.{Outcome}
-use Rattle.screen_tool.specs.declared.status.Outcome.TheVariants.{Done, Usage, RulesRefused, ReadingsRefused, NeedsRepair}
+use Rattle.screen_tool.specs.declared.status.Outcome.TheVariants.{Done, Usage, RulesRefused, RulesNotBuilt, ReadingsRefused, NeedsRepair}
 
 abbrev pub rule_cause_name : RuleCause → List ℕ
-rule_cause_name rules.NotBuilt = codes "NotBuilt"
 rule_cause_name rules.Syntax = codes "Syntax"
 rule_cause_name rules.UnknownKey = codes "UnknownKey"
 rule_cause_name rules.MissingKey = codes "MissingKey"
@@ -37,6 +36,7 @@ abbrev pub outcome_text : Outcome → List ℕ
 outcome_text Done = []
 outcome_text Usage = usage_text
 outcome_text (RulesRefused fault) = codes "screen: rules refused: " ++ rule_cause_name fault.cause ++ codes ", rule " ++ decimal fault.rule ++ codes "\n"
+outcome_text RulesNotBuilt = codes "screen: rules refused: NotBuilt, rule 0\n"
 outcome_text (ReadingsRefused fault) =
     codes "screen: readings refused: " ++ table_cause_name fault.cause ++ codes ", row " ++ decimal fault.row ++ codes ", column " ++ decimal fault.col ++ codes "\n"
 outcome_text NeedsRepair = codes "screen: the readings need repair\n"

@@ -1,7 +1,6 @@
 -- For proofs: what the steps of a command leave, before it writes anything.
 use Rattle.std.specs.Prelude.{◌≡◌, ℕ, ◌+◌, ◌<◌, ◌≤◌, List, length, Option, None, option_map, Result, Ok, Err, Vec}
 use Rattle.std.specs.declared.alloc.Global.{Global as Heap}
-use Rattle.rule_file.specs.declared.fault.RuleFault.{RuleFault}
 use Rattle.rule_file.specs.Fault.{of_the_file as of_the_rules}
 use Rattle.narrow_csv.specs.Fault.{of_the_file as of_the_readings}
 use Rattle.rule_file.specs.declared.fault.RuleCause.TheVariants as rules
@@ -10,6 +9,7 @@ use Rattle.narrow_csv.specs.declared.fault.TableCause.TheVariants as readings
 use Rattle.screen_io.specs.Faults.{Rose}
 use Rattle.screen_io.specs.Source.{Takes}
 use Rattle.screen_tool.specs.declared.ends.Inputs.{Inputs}
+use Rattle.screen_tool.specs.declared.narrow.RulesFault.{RulesFault}
 use Rattle.screen_tool.specs.declared.reply.Reply.{Reply}
 use Rattle.screen_tool.specs.declared.status.Ending.{Ending}
 use Rattle.screen_tool.specs.declared.status.Ending.TheVariants as ending
@@ -17,6 +17,7 @@ use Rattle.screen_tool.specs.declared.status.Outcome.TheVariants.{RulesRefused, 
 use Rattle.screen_tool.specs.declared.step.StepFault.{StepFault}
 use Rattle.screen_tool.specs.declared.step.StepFault.TheVariants.{TooLong, Refused, Failed, Memory}
 use Rattle.screen_tool.specs.Answer.{Whole, Begun, Answer}
+use Rattle.screen_tool.specs.Files.{refused_rules}
 use Rattle.screen_tool.specs.Performance.{IsAnswerTo, IsRead, IsAnswered, Starves, Stays, Stops}
 
 -- what is found in bytes that were read, by what they are read as
@@ -28,9 +29,9 @@ IsFound Reads bytes (Err TooLong) = ⊥
 IsFound Reads bytes (Err Failed) = ⊥
 
 -- how a command ends at a fault of its rules, and of its readings
-abbrev pub rules_ending : StepFault RuleFault → Ending
+abbrev pub rules_ending : StepFault RulesFault → Ending
 rules_ending TooLong = ending.Ended (RulesRefused (of_the_rules rules.FileTooLong))
-rules_ending (Refused fault) = ending.Ended (RulesRefused fault)
+rules_ending (Refused fault) = ending.Ended (refused_rules fault)
 rules_ending Failed = ending.ReadFault
 rules_ending Memory = ending.Memory
 

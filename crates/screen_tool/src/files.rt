@@ -5,11 +5,11 @@ ghost use Rattle.narrow_csv.specs.ReadingsFile.{Reads as ReadsReadings};
 ghost use Rattle.screen_tool.specs.Narrow.{Reads as ReadsRules};
 ghost use Rattle.screen_tool.specs.Step.{IsFound, IsStep, WasRead};
 
-use crate::narrow::whole_speed;
+use crate::narrow::{RulesFault, whole_speed};
 use crate::speed::WholeSpeed;
 use crate::step::StepFault;
 use narrow_csv::{Table, TableCause, TableFault, read_table};
-use rule_file::{RuleCause, RuleFault, read_rules};
+use rule_file::{RuleCause, read_rules};
 use screen_io::{ReadFault, Source, read_all};
 use std::alloc::{AllocError, Global};
 
@@ -17,7 +17,7 @@ use std::alloc::{AllocError, Global};
 pub(crate) fn rules_from<S: Source>(
     alloc: Global,
     src: &mut S,
-) -> Result<WholeSpeed, StepFault<RuleFault>>
+) -> Result<WholeSpeed, StepFault<RulesFault>>
     ensures { IsStep S.left S.faults longest_rules ReadsRules src.old src.new result }
 {
     let bytes = bytes_from(alloc, src, rule_file::LONGEST as u64)?;
@@ -53,17 +53,17 @@ fn bytes_from<S: Source, F>(
 }
 
 /// The rules that the bytes spell.
-fn rules_of(alloc: Global, bytes: &[u8]) -> Result<WholeSpeed, StepFault<RuleFault>>
+fn rules_of(alloc: Global, bytes: &[u8]) -> Result<WholeSpeed, StepFault<RulesFault>>
     ensures { IsFound ReadsRules bytes.now result }
 {
     let rules = match read_rules(alloc, bytes) {
         Ok(rules) => rules,
         Err(fault) if fault.cause == RuleCause::Memory => return Err(StepFault::Memory),
-        Err(fault) => return Err(StepFault::Refused(fault)),
+        Err(fault) => return Err(StepFault::Refused(RulesFault::Refused(fault))),
     };
     match whole_speed(alloc, &rules) {
         Ok(Some(speed)) => Ok(speed),
-        Ok(None) => Err(StepFault::Refused(RuleFault::of_the_file(RuleCause::NotBuilt))),
+        Ok(None) => Err(StepFault::Refused(RulesFault::NotBuilt)),
         Err(AllocError) => Err(StepFault::Memory),
     }
 }

@@ -1,4 +1,5 @@
-//! The rules that the program works with so far: one speed rule, in whole units and whole seconds.
+//! The rules that the program works with so far: one speed rule without a price, in whole units and whole
+//! seconds.
 ghost use Rattle.std.specs.Prelude.{◌≡◌, ◌≢◌, ◌↔◌, ◌*◌, ◌^◌, [], ◌∷◌, length, ℕ, ℤ, pos, ◌*ℤ◌, IsTrue, IfOk, MatchOption};
 ghost use Rattle.std.specs.List.{list_all};
 ghost use Rattle.screen_tool.specs.Limits.{IsSensorName, IsChange, IsSeconds, is_small_letter};
@@ -6,10 +7,19 @@ ghost use Rattle.screen_tool.specs.Narrow.{HasSpeedsAlone, IsFirstColumn, IsNarr
 ghost use Rattle.screen_tool.specs.Numbers.{speed_of};
 
 use crate::speed::{Numbers, WholeSpeed};
-use rule_file::{Format, Name, Rules, SpeedRule};
+use rule_file::{Format, Name, RuleFault, Rules, SpeedRule};
 use sequence::Sequence;
 use std::alloc::{AllocError, Global};
 use time_text::TimeForm;
+
+/// Why the program does not work with a file of rules.
+#[derive(Clone, Copy, Debug, PartialEq, Eq)]
+pub(crate) enum RulesFault {
+    /// It is refused as a rule file.
+    Refused(RuleFault),
+    /// Its rules are of a kind that the program does not work with so far.
+    NotBuilt,
+}
 
 /// The one speed rule, if the rules are no more than that on whole units and seconds.
 pub(crate) fn whole_speed(alloc: Global, rules: &Rules) -> Result<Option<WholeSpeed>, AllocError>
@@ -88,7 +98,7 @@ fn numbers_in(rule: &SpeedRule) -> Option<Numbers<'_>>
         (λ found. IsWholeSpeed rule.now (speed_of found)) }
 {
     let sensor = rule.sensor.bytes();
-    if !is_sensor_name(sensor) || rule.min.per > 1_000_000 {
+    if !is_sensor_name(sensor) || rule.min.per > 1_000_000 || rule.price != 0 {
         return None;
     }
     let min = wholes(rule.min.millionths)?;

@@ -40,6 +40,7 @@ fn outcome_note(outcome: &Outcome) -> Note
         Outcome::Done => {}
         Outcome::Usage => note.push_str(USAGE),
         Outcome::RulesRefused(fault) => return rules_note(fault),
+        Outcome::RulesNotBuilt => note.push_str("screen: rules refused: NotBuilt, rule 0\n"),
         Outcome::ReadingsRefused(fault) => return readings_note(fault),
         Outcome::NeedsRepair => note.push_str("screen: the readings need repair\n"),
     }
@@ -87,7 +88,6 @@ fn rule_cause_name(cause: RuleCause) -> &'static str
     ensures short { length result.now ≤ 20 }
 {
     match cause {
-        RuleCause::NotBuilt => "NotBuilt",
         RuleCause::Syntax => "Syntax",
         RuleCause::UnknownKey => "UnknownKey",
         RuleCause::MissingKey => "MissingKey",

@@ -2,9 +2,10 @@
 ghost use Rattle.std.specs.Prelude.{◌≡◌};
 ghost use Rattle.screen_tool.specs.Ending.{code_of, status_of};
 
+use crate::narrow::RulesFault;
 use crate::step::StepFault;
 use narrow_csv::{TableCause, TableFault};
-use rule_file::{RuleCause, RuleFault};
+use rule_file::RuleFault;
 use std::alloc::AllocError;
 
 /// How a run ended, as its exit status tells it.
@@ -55,6 +56,8 @@ pub enum Outcome {
     Usage,
     /// The rules are refused.
     RulesRefused(RuleFault),
+    /// The rules are of a kind that the program does not work with so far.
+    RulesNotBuilt,
     /// The readings are refused.
     ReadingsRefused(TableFault),
     /// The readings do not obey the rules.
@@ -82,7 +85,9 @@ impl Ending {
         match self {
             Ending::Ended(Outcome::Done) => Status::Done,
             Ending::Ended(Outcome::Usage) => Status::Usage,
-            Ending::Ended(Outcome::RulesRefused(_)) => Status::RulesRefused,
+            Ending::Ended(Outcome::RulesRefused(_) | Outcome::RulesNotBuilt) => {
+                Status::RulesRefused
+            }
             Ending::Ended(Outcome::ReadingsRefused(_)) => Status::ReadingsRefused,
             Ending::Ended(Outcome::NeedsRepair) => Status::NeedsRepair,
             Ending::ReadFault => Status::ReadFault,
@@ -103,18 +108,19 @@ impl From<AllocError> for Ending {
     }
 }
 
-impl From<StepFault<RuleFault>> for Ending {
+impl From<StepFault<RulesFault>> for Ending {
     ghost use Rattle.std.specs.Prelude.{◌≡◌};
     ghost use Rattle.screen_tool.specs.Step.{rules_ending};
 
     ghost from_gives = { λ fault ending. ending ≡ rules_ending fault };
 
-    fn from(fault: StepFault<RuleFault>) -> Ending {
+    fn from(fault: StepFault<RulesFault>) -> Ending {
         match fault {
-            StepFault::TooLong => Ending::Ended(Outcome::RulesRefused(RuleFault::of_the_file(
-                RuleCause::FileTooLong,
-            ))),
-            StepFault::Refused(fault) => Ending::Ended(Outcome::RulesRefused(fault)),
+            StepFault::TooLong => Ending::Ended(Outcome::RulesRefused(RuleFault::too_long())),
+            StepFault::Refused(RulesFault::Refused(fault)) => {
+                Ending::Ended(Outcome::RulesRefused(fault))
+            }
+            StepFault::Refused(RulesFault::NotBuilt) => Ending::Ended(Outcome::RulesNotBuilt),
             StepFault::Failed => Ending::ReadFault,
             StepFault::Memory => Ending::Memory,
         }

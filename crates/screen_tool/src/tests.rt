@@ -225,6 +225,12 @@ fn refused_files_are_named(rt: HostRuntime) -> Result<(), Fail> {
         ("min = -1", "min = 2", "Order, rule 1"),
         ("decimals = 0", "decimals = 1", "NotBuilt, rule 0"),
         ("max = 1", "max = \"0.5\"", "NotBuilt, rule 0"),
+        ("window = 10", "window = 10\nprice = 1", "NotBuilt, rule 0"),
+        (
+            "window = 10",
+            "window = 10\nprice = 0",
+            "OutOfLimit, rule 1",
+        ),
     ];
     for (part, other, fault) in cases {
         let rules = changed(alloc, part, other)?;

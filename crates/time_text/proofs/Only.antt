@@ -1,5 +1,5 @@
 -- A time text has one answer.
-use Rattle.std.proofs.Common.{◌≡◌, ◌≢◌, ℕ, ◌≤◌, ℤ, pos, List, Result, Ok, Err, IfOk, IfErr, length, unsigned_abs, IsUtf8, inl, inr, refl, sym, ap, ◌∙◌, arith}
+use Rattle.std.proofs.Common.{◌≡◌, ◌≢◌, ℕ, ◌≤◌, ℤ, List, Result, Ok, Err, IfOk, IfErr, length, unsigned_abs, IsUtf8, inl, inr, refl, sym, ap, ◌∙◌, arith}
 use Rattle.jiff.specs.Types.{DateTime}
 use Rattle.jiff.specs.Words.{Error, parse_datetime, date_parts, time_parts, civil_nanos}
 use Rattle.fix_point.specs.Scaled as Scaled
@@ -7,7 +7,9 @@ use Rattle.fix_point.specs.declared.scale.NumFault.{NumFault}
 use Rattle.fix_point.specs.declared.scale.Extra.{Extra}
 use Rattle.time_text.specs.Trimmed.{trimmed}
 use Rattle.time_text.specs.Calendar.{with_designator, IsInstant, IsNoInstant, IsCivil, IsNoCivil}
-use Rattle.time_text.specs.Ticks.{most_ticks, IsNumber, NumberRefuses, IsCalendar, CalendarRefuses, IsTrimmedTicks, RefusesTrimmed, Reads}
+use Rattle.time_text.specs.Ticks.{IsNumber, NumberRefuses, IsCalendar, CalendarRefuses, IsTrimmedTicks, RefusesTrimmed, Reads}
+use Rattle.time_text.specs.declared.calendar.TheConstants.{LONGEST}
+use Rattle.time_text.specs.declared.form.TheConstants.{MOST_TICKS}
 use Rattle.time_text.specs.declared.form.TimeForm.{TimeForm}
 use Rattle.time_text.specs.declared.form.TimeForm.TheVariants.{Sec, Milli, Micro, Nano, Instant, Civil}
 use Rattle.time_text.specs.declared.form.TimeFault.{TimeFault}
@@ -25,19 +27,19 @@ pub record HasOneAnswer (Reads : ℤ → Type 0) (Fails : TimeFault → Type 0) 
 
 -- ---- numbers
 
-number_or_fault : HasOneNumber → (d : ℕ) (text : List ℕ) (ticks : ℤ) (fault : NumFault) → IsNumber d text ticks → Scaled.Refuses text d Extra.Refuse (pos most_ticks) fault → ⊥
+number_or_fault : HasOneNumber → (d : ℕ) (text : List ℕ) (ticks : ℤ) (fault : NumFault) → IsNumber d text ticks → Scaled.Refuses text d Extra.Refuse MOST_TICKS fault → ⊥
 number_or_fault law d text ticks fault p q =
-    let same : Ok ticks ≡ Err fault = law text d Extra.Refuse (pos most_ticks) (Ok ticks) (Err fault) p q in
+    let same : Ok ticks ≡ Err fault = law text d Extra.Refuse MOST_TICKS (Ok ticks) (Err fault) p q in
     absurd cc
 
 one_number : HasOneNumber → (d : ℕ) (text : List ℕ) (one other : ℤ) → IsNumber d text one → IsNumber d text other → one ≡ other
 one_number law d text one other p q =
-    let same = law text d Extra.Refuse (pos most_ticks) (Ok one) (Ok other) p q in
+    let same = law text d Extra.Refuse MOST_TICKS (Ok one) (Ok other) p q in
     cc
 
-same_fault : HasOneNumber → (d : ℕ) (text : List ℕ) (one other : NumFault) → Scaled.Refuses text d Extra.Refuse (pos most_ticks) one → Scaled.Refuses text d Extra.Refuse (pos most_ticks) other → one ≡ other
+same_fault : HasOneNumber → (d : ℕ) (text : List ℕ) (one other : NumFault) → Scaled.Refuses text d Extra.Refuse MOST_TICKS one → Scaled.Refuses text d Extra.Refuse MOST_TICKS other → one ≡ other
 same_fault law d text one other p q =
-    let same = law text d Extra.Refuse (pos most_ticks) (Err one) (Err other) p q in
+    let same = law text d Extra.Refuse MOST_TICKS (Err one) (Err other) p q in
     cc
 
 -- what number refuses as it does
@@ -52,7 +54,7 @@ time_fault NumFault.NotNumber = NotTime
 time_fault NumFault.TooFine = TimeTooFine
 time_fault NumFault.OutOfRange = TimeOutOfRange
 
-as_number : (d : ℕ) (text : List ℕ) (fault : TimeFault) (some : fault ≢ Memory) → NumberRefuses d text fault → Scaled.Refuses text d Extra.Refuse (pos most_ticks) (num_fault fault some)
+as_number : (d : ℕ) (text : List ℕ) (fault : TimeFault) (some : fault ≢ Memory) → NumberRefuses d text fault → Scaled.Refuses text d Extra.Refuse MOST_TICKS (num_fault fault some)
 unfolding num_fault
 as_number d text NotTime some p = p
 as_number d text TimeTooFine some p = p
@@ -99,7 +101,7 @@ one_civil text one other p q =
 civil_or_none : (text : List ℕ) (one : ℤ) → IsCivil text one → IsNoCivil text → ⊥
 civil_or_none text one p q = let this = p.read in let other = q.1 in cc
 
-not_time : (Reads : List ℕ → ℤ → Type 0) (Fails : List ℕ → Type 0) → ((text : List ℕ) (one : ℤ) → Reads text one → Fails text → ⊥) → (text : List ℕ) (one : ℤ) → length text ≤ 64 → IsUtf8 (with_designator text) → Reads (with_designator text) one → CalendarRefuses Reads Fails text NotTime → ⊥
+not_time : (Reads : List ℕ → ℤ → Type 0) (Fails : List ℕ → Type 0) → ((text : List ℕ) (one : ℤ) → Reads text one → Fails text → ⊥) → (text : List ℕ) (one : ℤ) → length text ≤ LONGEST → IsUtf8 (with_designator text) → Reads (with_designator text) one → CalendarRefuses Reads Fails text NotTime → ⊥
 not_time Reads Fails read_or_none text one short utf8 read (inl long) = omega (arith, short, long)
 not_time Reads Fails read_or_none text one short utf8 read (inr (inl other)) = other utf8
 not_time Reads Fails read_or_none text one short utf8 read (inr (inr fails)) = read_or_none (with_designator text) one read fails

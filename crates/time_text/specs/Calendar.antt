@@ -2,10 +2,11 @@
 use Rattle.std.specs.Prelude.{◌≡◌, ℕ, ◌==◌, ℤ, List, Ok, Err, if◌then◌else◌, slice_index, slice_set}
 use Rattle.jiff.specs.Types.{DateTime}
 use Rattle.jiff.specs.Words.{Error, parse_timestamp, parse_datetime, date_parts, time_parts, civil_nanos}
+use Rattle.time_text.specs.declared.calendar.TheConstants.{DESIGNATOR}
 
 -- the text as it is read: where its eleventh byte is a space, a `T` in place of that
 abbrev pub with_designator : List ℕ → List ℕ
-with_designator text = if slice_index text 10 == 32 then slice_set text 10 84 else text
+with_designator text = if slice_index text DESIGNATOR == 32 then slice_set text DESIGNATOR 84 else text
 
 -- the text is read as the instant at this nanosecond
 abbrev pub IsInstant : List ℕ → ℤ → Type 0

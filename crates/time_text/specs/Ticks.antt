@@ -1,48 +1,46 @@
 -- To be believed: what a time text is read as, its ticks or why it has none. A tick is a nanosecond.
-use Rattle.std.specs.Prelude.{ℕ, ◌*◌, ◌^◌, ◌<◌, ◌≤◌, ◌⊎◌, ℤ, pos, List, length, Result, Ok, Err, unsigned_abs, IsUtf8}
+use Rattle.std.specs.Prelude.{ℕ, ◌<◌, ◌≤◌, ◌⊎◌, ℤ, List, length, Result, Ok, Err, unsigned_abs, IsUtf8}
 use Rattle.fix_point.specs.Scaled as Scaled
 use Rattle.fix_point.specs.declared.scale.NumFault.TheVariants as NumFault
 use Rattle.fix_point.specs.declared.scale.Extra.TheVariants as Extra
 use Rattle.time_text.specs.Trimmed.{trimmed}
 use Rattle.time_text.specs.Calendar.{with_designator, IsInstant, IsNoInstant, IsCivil, IsNoCivil}
+use Rattle.time_text.specs.declared.calendar.TheConstants.{LONGEST}
+use Rattle.time_text.specs.declared.form.TheConstants.{MOST_TICKS}
 use Rattle.time_text.specs.declared.form.TimeForm.{TimeForm}
 use Rattle.time_text.specs.declared.form.TimeForm.TheVariants.{Sec, Milli, Micro, Nano, Instant, Civil}
 use Rattle.time_text.specs.declared.form.TimeFault.{TimeFault}
 use Rattle.time_text.specs.declared.form.TimeFault.TheVariants.{NotTime, TimeTooFine, TimeOutOfRange, Memory}
 
--- the greatest size of ticks
-abbrev pub most_ticks : ℕ
-most_ticks = 9 * 10 ^ 18
-
 -- The text is a number of units of 10^d ticks, and this is the number of ticks.
 abbrev pub IsNumber : ℕ → List ℕ → ℤ → Type 0
-IsNumber d text ticks = Scaled.Spells text d Extra.Refuse (pos most_ticks) ticks
+IsNumber d text ticks = Scaled.Spells text d Extra.Refuse MOST_TICKS ticks
 
 -- why a text is no such number
 abbrev pub NumberRefuses : ℕ → List ℕ → TimeFault → Type 0
-NumberRefuses d text NotTime = Scaled.Refuses text d Extra.Refuse (pos most_ticks) NumFault.NotNumber
-NumberRefuses d text TimeTooFine = Scaled.Refuses text d Extra.Refuse (pos most_ticks) NumFault.TooFine
-NumberRefuses d text TimeOutOfRange = Scaled.Refuses text d Extra.Refuse (pos most_ticks) NumFault.OutOfRange
+NumberRefuses d text NotTime = Scaled.Refuses text d Extra.Refuse MOST_TICKS NumFault.NotNumber
+NumberRefuses d text TimeTooFine = Scaled.Refuses text d Extra.Refuse MOST_TICKS NumFault.TooFine
+NumberRefuses d text TimeOutOfRange = Scaled.Refuses text d Extra.Refuse MOST_TICKS NumFault.OutOfRange
 NumberRefuses d text Memory = ⊥
 
 -- the text is read as this nanosecond, which is in the range of ticks
 pub record IsCalendar (Reads : List ℕ → ℤ → Type 0) (text : List ℕ) (ticks : ℤ) : Type 0 where
-  pub short : length text ≤ 64
+  pub short : length text ≤ LONGEST
   pub utf8 : IsUtf8 (with_designator text)
   pub read : Reads (with_designator text) ticks
-  pub small : unsigned_abs ticks ≤ most_ticks
+  pub small : unsigned_abs ticks ≤ unsigned_abs MOST_TICKS
 
 -- the text is read as this nanosecond, which is out of the range of ticks
 pub record IsBeyond (Reads : List ℕ → ℤ → Type 0) (text : List ℕ) (nanosecond : ℤ) : Type 0 where
-  pub short : length text ≤ 64
+  pub short : length text ≤ LONGEST
   pub utf8 : IsUtf8 (with_designator text)
   pub read : Reads (with_designator text) nanosecond
-  pub large : most_ticks < unsigned_abs nanosecond
+  pub large : unsigned_abs MOST_TICKS < unsigned_abs nanosecond
 
 -- why a text is read as no ticks
 abbrev pub CalendarRefuses : (List ℕ → ℤ → Type 0) → (List ℕ → Type 0) → List ℕ → TimeFault → Type 0
 CalendarRefuses Reads Fails text NotTime =
-    (64 < length text) ⊎ ((¬ IsUtf8 (with_designator text)) ⊎ Fails (with_designator text))
+    (LONGEST < length text) ⊎ ((¬ IsUtf8 (with_designator text)) ⊎ Fails (with_designator text))
 CalendarRefuses Reads Fails text TimeTooFine = ⊥
 CalendarRefuses Reads Fails text TimeOutOfRange = (nanosecond : ℤ) × IsBeyond Reads text nanosecond
 CalendarRefuses Reads Fails text Memory = ⊥

@@ -1,7 +1,7 @@
 //! Calendar texts as ticks, read by `jiff`.
-ghost use Rattle.std.specs.Prelude.{◌≡◌, ℤ, ◌<◌, ◌≤◌, length, take, unsigned_abs, IfOk, IfErr, IsErrOf, Ok, Err, IsUtf8};
+ghost use Rattle.std.specs.Prelude.{◌≡◌, ◌<◌, ◌≤◌, length, take, unsigned_abs, IfOk, IfErr, IsErrOf, Ok, Err, IsUtf8};
 ghost use Rattle.time_text.specs.Calendar.{with_designator, IsInstant, IsNoInstant, IsCivil, IsNoCivil};
-ghost use Rattle.time_text.specs.Ticks.{most_ticks, IsCalendar, CalendarRefuses};
+ghost use Rattle.time_text.specs.Ticks.{IsCalendar, CalendarRefuses};
 
 use crate::form::{MOST_TICKS, TimeFault};
 use jiff::Timestamp;
@@ -9,16 +9,16 @@ use jiff::civil::DateTime;
 use std::str;
 
 /// The most bytes of a calendar text.
-const LONGEST: usize = 64;
+pub const LONGEST: usize = 64;
 
-/// Where the `T` stands between a date and a time.
-const DESIGNATOR: usize = 10;
+/// Where the `T` stands between a date and a time: how many bytes are before it.
+pub const DESIGNATOR: usize = 10;
 
 /// The text as it is read, with other bytes after it.
 fn designated(text: &[u8]) -> Result<[u8; LONGEST], TimeFault>
     ensures read { IfOk result (λ room. take (length text.now) room ≡ with_designator text.now) }
-    ensures short { IfOk result (λ room. length text.now ≤ 64) }
-    ensures long { IfErr result (λ fault. 64 < length text.now) }
+    ensures short { IfOk result (λ room. length text.now ≤ LONGEST) }
+    ensures long { IfErr result (λ fault. LONGEST < length text.now) }
     ensures fault { IfErr result (λ fault. fault ≡ TimeFault.NotTime) }
 {
     if text.len() > LONGEST {
@@ -72,8 +72,8 @@ fn civil(text: &str) -> Result<i128, TimeFault>
 /// The nanosecond as ticks.
 fn in_range(nanosecond: i128) -> Result<i64, TimeFault>
     ensures same { IfOk result (λ ticks. ticks ≡ nanosecond) }
-    ensures small { IfOk result (λ ticks. unsigned_abs nanosecond ≤ most_ticks) }
-    ensures large { IfErr result (λ fault. most_ticks < unsigned_abs nanosecond) }
+    ensures small { IfOk result (λ ticks. unsigned_abs nanosecond ≤ unsigned_abs MOST_TICKS) }
+    ensures large { IfErr result (λ fault. unsigned_abs MOST_TICKS < unsigned_abs nanosecond) }
     ensures fault { IfErr result (λ fault. fault ≡ TimeFault.TimeOutOfRange) }
 {
     let most = i128::from(MOST_TICKS);

@@ -1,9 +1,9 @@
 //! Time texts as ticks.
-ghost use Rattle.std.specs.Prelude.{◌≡◌, ℕ, ℤ, List, Result, IfOk, IfErr, IsErrOf};
+ghost use Rattle.std.specs.Prelude.{◌≡◌, ◌≤◌, ℕ, ℤ, List, Result, IfOk, IfErr, IsErrOf, unsigned_abs};
 ghost use Rattle.time_text.specs.Ticks.{IsTrimmedTicks, RefusesTrimmed, Reads, Spells, Refuses};
 
 use crate::calendar::{civil_ticks, instant_ticks};
-use crate::form::{TimeFault, TimeForm};
+use crate::form::{MOST_TICKS, TimeFault, TimeForm};
 use crate::number::number_ticks;
 use crate::trim::trimmed_text;
 use std::alloc::Global;
@@ -32,6 +32,7 @@ use std::alloc::Global;
 pub fn ticks(alloc: Global, form: TimeForm, text: &[u8]) -> Result<i64, TimeFault>
     ensures accepted { IfOk result (Spells form text.now) }
     ensures refused { IfErr result (Refuses form text.now) }
+    ensures small { IfOk result (λ ticks. unsigned_abs ticks ≤ unsigned_abs MOST_TICKS) }
     ensures only { (answer : Result ℤ TimeFault) → Reads form text.now answer → result ≡ answer }
     ensures no_allocation { ¬ IsErrOf result TimeFault.Memory }
 {

@@ -1,12 +1,10 @@
-use Rattle.std.proofs.Common.{ℕ, ◌+◌, ◌*◌, ◌/◌, ◌%◌, ◌^◌, ◌<◌, ◌≤◌, List, length, get_or, unsigned_abs, Contains, arith}
-use Rattle.std.proofs.lemmas.List.{length_push, get_or_default}
+use Rattle.std.proofs.Common.{ℕ, ◌+◌, ◌*◌, ◌/◌, ◌%◌, ◌^◌, ◌<◌, ◌≤◌, length, unsigned_abs, arith}
+use Rattle.std.proofs.lemmas.List.{length_push}
 use Rattle.screen_model.specs.declared.place.Place.{Place}
 use Rattle.screen_model.specs.Obeys.{HasEnds}
 use Rattle.words.proofs.Lists.{all_push}
+use Rattle.bound_graph.proofs.Members.{contains_at}
 use Rattle.bound_graph.proofs.tests.ring.Goals as goal
-
-contains_at : (places : List Place) (k : ℕ) (d : Place) → k < length places → Contains places (get_or places k d)
-contains_at places k d lt = (k, lt, get_or_default places k (get_or places k d) d lt)
 
 pub loop-i-preserved : goal.loop-i-preserved
 loop-i-preserved c =

@@ -1,7 +1,7 @@
 use Rattle.std.proofs.Common.{◌≡◌, inl, inr, ℕ, ◌≤◌, IsTrue, subst}
 use Rattle.record_cut.specs.Bytes.{is_separator}
 use Rattle.record_cut.specs.Drafted.{Drafted}
-use Rattle.record_cut.specs.Reading.{FitsPlace}
+use Rattle.record_cut.specs.Resumed.{FitsPlace}
 use Rattle.record_cut.specs.Moves.{Leaves}
 use Rattle.record_cut.specs.declared.phase.Place.{Place}
 use Rattle.record_cut.specs.declared.phase.Place.TheVariants.{Field, Plain, PlainCr, Quoted, QuoteInQuoted, ClosedCr}

@@ -1,6 +1,9 @@
-use Rattle.std.proofs.Common.{◌≡◌, ◌++◌, drop}
+use Rattle.std.proofs.Common.{◌≡◌, ◌++◌, ◌-◌, length, drop}
 use Rattle.record_cut.specs.Row.{doubled}
 use Rattle.record_cut.proofs.row.push_doubled.Given as goal
 
-abbrev pub invariant-loop-byte : goal.invariant-loop-byte
-invariant-loop-byte l = l.text.items ++ doubled (drop l.byte-index l.field) ≡ l.initial.text.items ++ doubled l.field
+abbrev pub invariant-loop-from : goal.invariant-loop-from
+invariant-loop-from l = l.text.items ++ doubled (drop l.from l.field) ≡ l.initial.text.items ++ doubled l.field
+
+abbrev pub decreases-loop-from : goal.decreases-loop-from
+decreases-loop-from l = length l.field - l.from

@@ -1,42 +1,6 @@
-use Rattle.std.proofs.Common.{ap}
 use Rattle.std.proofs.lemmas.Result.{on_ok_weaker}
-use Rattle.rule_keys.specs.declared.key.KeyName.TheVariants.{Sensor, First, Second}
-use Rattle.rule_keys.specs.Keys.{keys_of}
-use Rattle.rule_file.proofs.Names.{key_at, named}
 use Rattle.rule_file.proofs.Pushed.{push_speed, push_swing, push_drift, push_range, push_trust, push_weight, push_between}
 use Rattle.rule_file.proofs.draft.push_rule.Goals as goal
-
-pub speed_from-requires-clause-sensor : goal.speed_from-requires-clause-sensor
-speed_from-requires-clause-sensor c =
-    named c.args.kind Sensor c.args.entries.now (ap (λ kind. key_at Sensor (keys_of kind)) c.in-Speed.is) c.requires.read
-
-pub swing_from-requires-clause-sensor : goal.swing_from-requires-clause-sensor
-swing_from-requires-clause-sensor c =
-    named c.args.kind Sensor c.args.entries.now (ap (λ kind. key_at Sensor (keys_of kind)) c.in-Swing.is) c.requires.read
-
-pub drift_from-requires-clause-sensor : goal.drift_from-requires-clause-sensor
-drift_from-requires-clause-sensor c =
-    named c.args.kind Sensor c.args.entries.now (ap (λ kind. key_at Sensor (keys_of kind)) c.in-Drift.is) c.requires.read
-
-pub range_from-requires-clause-sensor : goal.range_from-requires-clause-sensor
-range_from-requires-clause-sensor c =
-    named c.args.kind Sensor c.args.entries.now (ap (λ kind. key_at Sensor (keys_of kind)) c.in-Range.is) c.requires.read
-
-pub trust_from-requires-clause-sensor : goal.trust_from-requires-clause-sensor
-trust_from-requires-clause-sensor c =
-    named c.args.kind Sensor c.args.entries.now (ap (λ kind. key_at Sensor (keys_of kind)) c.in-Trust.is) c.requires.read
-
-pub weight_from-requires-clause-sensor : goal.weight_from-requires-clause-sensor
-weight_from-requires-clause-sensor c =
-    named c.args.kind Sensor c.args.entries.now (ap (λ kind. key_at Sensor (keys_of kind)) c.in-Weight.is) c.requires.read
-
-pub between_from-requires-clause-first : goal.between_from-requires-clause-first
-between_from-requires-clause-first c =
-    named c.args.kind First c.args.entries.now (ap (λ kind. key_at First (keys_of kind)) c.in-Between.is) c.requires.read
-
-pub between_from-requires-clause-second : goal.between_from-requires-clause-second
-between_from-requires-clause-second c =
-    named c.args.kind Second c.args.entries.now (ap (λ kind. key_at Second (keys_of kind)) c.in-Between.is) c.requires.read
 
 pub returns-in_ok-speed_from-in-Speed-clause-rules : goal.returns-in_ok-speed_from-in-Speed-clause-rules
 returns-in_ok-speed_from-in-Speed-clause-rules c =

@@ -1,0 +1,4 @@
+pub mod Costs
+pub mod Counts
+pub mod Least
+pub mod Ranks

@@ -1,0 +1,2 @@
+pub mod LocalCost
+pub mod Median
