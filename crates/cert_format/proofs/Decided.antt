@@ -1,5 +1,5 @@
 -- Every text has an answer: each line of it is one that a certificate may have or not, and may come next or not.
-use Rattle.std.proofs.Common.{◌≡◌, ◌≢◌, ℕ, zero, suc, ◌+◌, ◌^◌, ◌<◌, ◌≤◌, Bool, true, false, ◌⊎◌, inl, inr, ℤ, pos, negsuc, List, [], ◌∷◌, ◌++◌, length, Option, Some, None, Result, Ok, Err, refl, sym, ap, ◌∙◌, subst, arith}
+use Rattle.std.proofs.Common.{◌≡◌, ◌≢◌, ℕ, suc, ◌^◌, ◌<◌, ◌≤◌, true, false, ◌⊎◌, inl, inr, ℤ, pos, negsuc, List, [], ◌∷◌, ◌++◌, length, Option, Some, None, Result, Ok, Err, refl, sym, ap, ◌∙◌, subst, arith}
 use Rattle.std.specs.Prelude.{unsigned_abs}
 use Rattle.std.specs.Str.{bytes_eq}
 use Rattle.std.proofs.lemmas.Bool.{cases_lt, cases_eq, false≢true}
@@ -17,7 +17,7 @@ use Rattle.cert_format.specs.declared.line.Line.{Line}
 use Rattle.cert_format.specs.declared.line.Line.TheVariants.{Header, ClaimRepair, ClaimNone, Total, Paid, Set, Flow, Step, End}
 use Rattle.cert_format.specs.Words.{line_feed, text_of_lines}
 use Rattle.cert_format.specs.Line.{IsPlace, IsName, IsValue, IsAmount, IsTotal, IsLine, text_of_line}
-use Rattle.cert_format.specs.Reads.{IsTextOf, IsRefusedAfter, Reads}
+use Rattle.cert_format.specs.Reads.{IsRefusedAfter, Reads}
 use Rattle.cert_format.specs.Fields.{Lacks}
 use Rattle.cert_format.specs.Draft.{next, whole}
 use Rattle.cert_format.proofs.Texts.{AreLines, led}

@@ -1,6 +1,5 @@
 -- A draft and the lines that it stands for.
-use Rattle.std.proofs.Common.{◌≡◌, ◌≢◌, ℕ, zero, suc, ◌+◌, ◌<◌, ◌≤◌, Bool, true, false, ◌||◌, cond, ◌⊎◌, inl, inr, ℤ, pos, List, [], ◌∷◌, ◌++◌, map, length, append_assoc, append-nil, Option, Some, None, refl, sym, ap, ◌∙◌, subst, arith}
-use Rattle.std.specs.Prelude.{codes}
+use Rattle.std.proofs.Common.{◌≡◌, ℤ, pos, List, [], ◌∷◌, ◌++◌, map, append_assoc, append-nil, Option, Some, None, refl, sym, ap, ◌∙◌, subst, arith}
 use Rattle.std.specs.Option.{option_map}
 use Rattle.std.specs.List.{AllByRecursion}
 use Rattle.std.proofs.lemmas.Int.{ints}
@@ -18,7 +17,7 @@ use Rattle.cert_format.specs.declared.line.Version.{Version}
 use Rattle.cert_format.specs.declared.line.Version.TheVariants.{One, Two}
 use Rattle.cert_format.specs.declared.line.Line.{Line}
 use Rattle.cert_format.specs.declared.line.Line.TheVariants.{Header, ClaimRepair, ClaimNone, Total, Paid, Set, Flow, Step, End}
-use Rattle.cert_format.specs.Line.{IsTotal, IsSet, IsItem, IsName, IsLine}
+use Rattle.cert_format.specs.Line.{IsTotal, IsName, IsLine}
 use Rattle.cert_format.specs.Cert.{AreLists, HasText, lines_before_end, lines_of_cert}
 use Rattle.cert_format.specs.Draft.{lists_with, steps_with, with_line, after_nothing, after_header, after_claim, after_total, after_lists, ended, next, whole}
 use Rattle.cert_format.proofs.Members.{AreMore, lists_more, MayFollow, in_lists, at_end, may_follow, NextOf, member, last, next_of, step_kind}

@@ -1,5 +1,5 @@
 -- What may come after the last member of a list.
-use Rattle.std.proofs.Common.{◌≡◌, ℕ, ◌-◌, suc, Some, List, [], ◌∷◌, length, sym, ap, ◌∙◌, arith}
+use Rattle.std.proofs.Common.{◌≡◌, ℕ, ◌-◌, suc, Some, List, [], ◌∷◌, length, ap, ◌∙◌, arith}
 use Rattle.std.specs.List.{slice_get}
 use Rattle.cert_format.specs.Order.{is_before}
 use Rattle.cert_format.specs.Draft.{follows}

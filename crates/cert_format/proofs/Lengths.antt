@@ -1,5 +1,5 @@
 -- How long lines and texts are.
-use Rattle.std.proofs.Common.{◌≡◌, ℕ, zero, suc, ◌+◌, ◌*◌, ◌^◌, ◌<◌, ◌≤◌, ℤ, pos, negsuc, ◌≤ℤ◌, List, [], ◌∷◌, ◌++◌, map, length, length-append, refl, sym, ap, ◌∙◌, subst, arith}
+use Rattle.std.proofs.Common.{◌≡◌, ℕ, suc, ◌+◌, ◌*◌, ◌^◌, ◌<◌, ◌≤◌, ℤ, pos, negsuc, ◌≤ℤ◌, List, [], ◌∷◌, ◌++◌, map, length, length-append, ap, ◌∙◌, arith}
 use Rattle.std.specs.Prelude.{decimal, unsigned_abs}
 use Rattle.std.specs.Fmt.{signed_decimal}
 use Rattle.std.specs.List.{AllByRecursion}
@@ -12,11 +12,10 @@ use Rattle.screen_model.specs.declared.bound.Side.TheVariants.{Up, Down}
 use Rattle.cert_format.specs.declared.cert.SetLine.{SetLine}
 use Rattle.cert_format.specs.declared.cert.Cert.{Cert}
 use Rattle.cert_format.specs.declared.cert.Cert.TheVariants.{Repair, Priced, NoSeries}
-use Rattle.cert_format.specs.declared.line.Version.TheVariants.{One, Two}
 use Rattle.cert_format.specs.declared.line.Line.{Line}
-use Rattle.cert_format.specs.declared.line.Line.TheVariants.{Header, ClaimRepair, ClaimNone, Total, Paid, Set, Flow, Step, End}
-use Rattle.cert_format.specs.Words.{line_feed, space, line_of_words, text_of_lines}
-use Rattle.cert_format.specs.Line.{IsName, IsTotal, IsAmount, IsSet, IsItem, side_word, name_words, text_of_line}
+use Rattle.cert_format.specs.declared.line.Line.TheVariants.{Total, Paid, Set, Flow, Step, End}
+use Rattle.cert_format.specs.Words.{line_feed, space}
+use Rattle.cert_format.specs.Line.{IsName, IsTotal, IsSet, IsItem, side_word, text_of_line}
 use Rattle.cert_format.specs.Cert.{AreLists, HasText, text_of_cert}
 use Rattle.cert_format.specs.Laws.{HasShortValue, HasShortAmount, AreShortLists, HasFewLines, ShortTexts}
 use Rattle.cert_format.proofs.Refusals.{text_of, text_of-append}

@@ -1,6 +1,7 @@
 pub mod Decided
 pub mod Digits
 pub mod Drafts
+mod Examples
 pub mod Last
 pub mod Lengths
 pub mod Lines

@@ -1,5 +1,5 @@
 -- A line and its text: each tells the other.
-use Rattle.std.proofs.Common.{◌≡◌, ◌≢◌, ℕ, zero, suc, ◌+◌, ◌^◌, ◌<◌, ◌≤◌, Bool, true, false, cond, eqb, ne_eqb, ℤ, pos, negsuc, neg_ℤ, List, [], ◌∷◌, ◌++◌, length, get_or, drop, append_assoc, refl, sym, ap, ◌∙◌, subst, arith}
+use Rattle.std.proofs.Common.{◌≡◌, ℕ, suc, ◌^◌, ◌<◌, false, cond, eqb, ne_eqb, ℤ, pos, negsuc, neg_ℤ, List, [], ◌∷◌, ◌++◌, length, get_or, drop, append_assoc, refl, sym, ap, ◌∙◌, arith}
 use Rattle.std.specs.Prelude.{codes, decimal, unsigned_abs}
 use Rattle.std.specs.Fmt.{signed_decimal}
 use Rattle.std.specs.List.{AllByRecursion}
@@ -16,7 +16,7 @@ use Rattle.cert_format.specs.declared.line.Version.TheVariants.{One, Two}
 use Rattle.cert_format.specs.declared.line.Line.{Line}
 use Rattle.cert_format.specs.declared.line.Line.TheVariants.{Header, ClaimRepair, ClaimNone, Total, Paid, Set, Flow, Step, End}
 use Rattle.cert_format.specs.Words.{space, line_feed, line_of_words}
-use Rattle.cert_format.specs.Line.{IsPlace, IsName, IsValue, IsAmount, IsTotal, IsSet, IsItem, IsLine, version_word, side_word, name_words, words_of, text_of_line}
+use Rattle.cert_format.specs.Line.{IsName, IsValue, IsAmount, IsTotal, IsSet, IsItem, IsLine, version_word, side_word, words_of, text_of_line}
 use Rattle.cert_format.specs.Fields.{Lacks, item_fields, name_fields}
 use Rattle.cert_format.proofs.Digits.{value-decimal, digits-decimal, decimal_some}
 use Rattle.cert_format.proofs.Words.{IsWord, word_by_test, word_of_digits, line_lacks_feed, words_in, words_in-line}

@@ -7,11 +7,11 @@ use Rattle.cert_format.specs.declared.fault.CertRead.TheVariants.{Syntax, Memory
 use Rattle.cert_format.specs.declared.line.Line.{Line}
 use Rattle.cert_format.specs.Words.{line_feed, first_lines}
 use Rattle.cert_format.specs.Line.{text_of_line}
-use Rattle.cert_format.specs.Cert.{HasText, lines_of_cert, text_of_cert}
+use Rattle.cert_format.specs.Cert.{lines_of_cert, text_of_cert}
 use Rattle.cert_format.specs.Reads.{IsTextOf, BeginsText, BeginsWell, IsRefusedAfter, Reads}
 use Rattle.cert_format.proofs.Texts.{not_among, IsFront, fewer_lines}
 use Rattle.cert_format.proofs.Drafts.{one_cert, cert_within}
-use Rattle.cert_format.proofs.Refusals.{text_of, HasRest, rest_of}
+use Rattle.cert_format.proofs.Refusals.{text_of, rest_of}
 
 -- ---- one certificate
 

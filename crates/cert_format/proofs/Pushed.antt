@@ -1,13 +1,10 @@
 -- Texts that grow line by line.
-use Rattle.std.proofs.Common.{◌≡◌, ℕ, List, [], ◌∷◌, ◌++◌, map, append_assoc, Result, Ok, Err, OnOk, sym, ap, ◌∙◌, subst}
+use Rattle.std.proofs.Common.{◌≡◌, ℕ, List, [], ◌∷◌, ◌++◌, map, append_assoc, Result, Ok, Err, OnOk, sym, ap, ◌∙◌}
 use Rattle.screen_model.specs.declared.bound.FlowItem.{FlowItem}
 use Rattle.cert_format.specs.declared.cert.SetLine.{SetLine}
-use Rattle.cert_format.specs.declared.cert.Cert.{Cert}
 use Rattle.cert_format.specs.declared.line.Line.{Line}
-use Rattle.cert_format.specs.declared.line.Line.TheVariants.{Set, Flow, End}
+use Rattle.cert_format.specs.declared.line.Line.TheVariants.{Set, Flow}
 use Rattle.cert_format.specs.Words.{line_feed}
-use Rattle.cert_format.specs.Line.{text_of_line}
-use Rattle.cert_format.specs.Cert.{lines_before_end, text_of_cert}
 use Rattle.cert_format.proofs.Refusals.{text_of, text_of-append}
 
 pub on_ok : {A E P Q : Type 0} (result : Result A E) → (P → Q) → OnOk result P → OnOk result Q

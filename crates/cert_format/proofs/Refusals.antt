@@ -1,5 +1,5 @@
 -- What has been read of some bytes, and what follows from the next line of theirs.
-use Rattle.std.proofs.Common.{◌≡◌, ◌≢◌, ℕ, zero, suc, ◌+◌, ◌<◌, ◌≤◌, ◌⊎◌, inl, inr, List, [], ◌∷◌, ◌++◌, map, length, length-append, append_assoc, append-nil, Option, Some, None, IsSomeAnd, Err, refl, sym, ap, ◌∙◌, subst, arith}
+use Rattle.std.proofs.Common.{◌≡◌, ◌≢◌, ℕ, suc, ◌+◌, ◌≤◌, ◌⊎◌, inl, inr, List, [], ◌∷◌, ◌++◌, map, length, length-append, append_assoc, append-nil, Option, Some, None, IsSomeAnd, Err, refl, sym, ap, ◌∙◌, subst, arith}
 use Rattle.std.specs.List.{AllByRecursion}
 use Rattle.std.specs.Option.{ok_or}
 use Rattle.std.proofs.lemmas.List.{map-append, length-map}
@@ -15,7 +15,7 @@ use Rattle.cert_format.specs.Cert.{HasText, lines_of_cert, text_of_cert}
 use Rattle.cert_format.specs.Reads.{IsTextOf, BeginsText, BeginsWell, IsRefusedAfter, Reads}
 use Rattle.cert_format.specs.Fields.{Lacks, IsLineThen, HasNoLine, no_feed, no_line}
 use Rattle.cert_format.specs.Draft.{next, whole}
-use Rattle.cert_format.proofs.Texts.{AreLines, split_one, not_among, text-append, led, lines_go_on, length-text, first_lines-text, first_lines-one_more, first_lines-too_many}
+use Rattle.cert_format.proofs.Texts.{AreLines, split_one, not_among, text-append, lines_go_on, length-text, first_lines-text, first_lines-one_more, first_lines-too_many}
 use Rattle.cert_format.proofs.Lines.{lacks_feed, one_line}
 use Rattle.cert_format.proofs.Drafts.{so_far, IsDraft, goes_on, may_come, not_all, can_end, cert_within, draft_within}
 

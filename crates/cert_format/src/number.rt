@@ -1,5 +1,5 @@
 //! Numbers as words, each with one spelling, and words at the front of some bytes.
-ghost use Rattle.std.specs.Prelude.{◌≡◌, ◌<◌, ◌≤◌, ◌^◌, ℕ, ℤ, pos, ◌≤ℤ◌, List, ◌∷◌, ◌++◌, length, decimal, IfSome, IfNone, IsSomeAnd, unsigned_abs};
+ghost use Rattle.std.specs.Prelude.{◌≡◌, ◌<◌, ◌≤◌, ◌^◌, ℕ, ℤ, List, ◌∷◌, ◌++◌, length, decimal, IfSome, IfNone, IsSomeAnd};
 ghost use Rattle.std.specs.Fmt.{signed_decimal};
 ghost use Rattle.std.specs.Str.Parse.{AllDigits, digits_value};
 ghost use Rattle.cert_format.specs.Fields.{Lacks, IsNumberThen};

@@ -1,3 +1,4 @@
+//! Certificates that are read, written and refused.
 use crate::{
     Cert, CertRead, LONGEST, Line, SetLine, Version, an_answer, one_answer, one_spelling,
     push_line, read_cert, round_trip, short_texts, write_cert,

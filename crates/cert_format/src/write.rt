@@ -126,7 +126,7 @@ fn push_whole(text: &mut Vec<u8>, line: Line) -> Result<(), AllocError>
     text.extend_from_slice(b"\n")
 }
 
-/// Adds the text of a line, without its line feed.
+/// Adds the text of a line, without its line feed. Where memory runs out, a front part of it may have been added.
 pub fn push_line(text: &mut Vec<u8>, line: Line) -> Result<(), AllocError>
     ensures { OnOk result (text.new.items ≡ text.old.items ++ text_of_line line) }
 {

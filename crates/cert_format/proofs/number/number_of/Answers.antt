@@ -1,4 +1,4 @@
-use Rattle.std.proofs.Common.{◌≡◌, ◌≢◌, ℕ, ◌<◌, ◌≤◌, ◌^◌, ◌∙◌, eqb-true, eq-eqb, get_or, length, ap, subst, sym, arith}
+use Rattle.std.proofs.Common.{◌≡◌, ◌≢◌, ◌<◌, ◌∙◌, eqb-true, eq-eqb, get_or, length, ap, sym, arith}
 use Rattle.std.specs.Prelude.{decimal}
 use Rattle.std.proofs.lemmas.Bool.{both_ways, eqb-false, le-ltb}
 use Rattle.std.proofs.lemmas.Fmt.{length-decimal-le_wide}

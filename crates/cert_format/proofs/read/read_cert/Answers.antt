@@ -1,5 +1,4 @@
-use Rattle.std.proofs.Common.{◌≡◌, ◌≢◌, ◌∙◌, inr, None, Some, Err, [], length, eq-eqb, eqb-true, sym, ap, subst, arith}
-use Rattle.std.specs.Option.{ok_or}
+use Rattle.std.proofs.Common.{◌≡◌, ◌≢◌, ◌∙◌, inr, None, Some, Err, [], length, eq-eqb, sym, ap, subst, arith}
 use Rattle.std.proofs.lemmas.Bool.{both_ways}
 use Rattle.words.proofs.Answers.{refused_if}
 use Rattle.cert_format.specs.declared.fault.CertRead.TheVariants.{Syntax, Memory}
