@@ -172,6 +172,7 @@ module _ {S K : Type 0} (left : S → Option (List ℕ)) (source_faults : S → 
   is_done (ending.Ended outcome.Done) p = refl
   is_done (ending.Ended outcome.Usage) p = cc
   is_done (ending.Ended (outcome.RulesRefused f)) p = cc
+  is_done (ending.Ended outcome.RulesNotBuilt) p = cc
   is_done (ending.Ended (outcome.ReadingsRefused f)) p = cc
   is_done (ending.Ended outcome.NeedsRepair) p = cc
   is_done ending.ReadFault p = cc
@@ -182,6 +183,7 @@ module _ {S K : Type 0} (left : S → Option (List ℕ)) (source_faults : S → 
   is_repair (ending.Ended outcome.Done) p = cc
   is_repair (ending.Ended outcome.Usage) p = cc
   is_repair (ending.Ended (outcome.RulesRefused f)) p = cc
+  is_repair (ending.Ended outcome.RulesNotBuilt) p = cc
   is_repair (ending.Ended (outcome.ReadingsRefused f)) p = cc
   is_repair (ending.Ended outcome.NeedsRepair) p = refl
   is_repair ending.ReadFault p = cc
