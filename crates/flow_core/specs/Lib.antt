@@ -1,6 +1,0 @@
-pub mod Layout
-pub mod Laws
-pub mod Solving
-pub mod State
-pub mod Stored
-pub mod Views

@@ -1,4 +1,0 @@
-pub mod Lines
-pub mod Orders
-pub mod Selection
-pub mod Window
