@@ -23,7 +23,7 @@ all: $(BINARY)
 # Only what is proved is built. The build runs the program without words: it prints its usage and exits with 2.
 $(BINARY): $(SOURCES)
 	@$(HAS_RT)
-	@echo 'Building screen. The first build proves every crate of it, which takes some fifteen minutes on four processors.'
+	@echo 'Building screen. The first build proves every crate of it, which may take from ten minutes to an hour.'
 	@mkdir -p $(dir $(BINARY)) && rm -f $(BINARY)
 	@(cd crates/screen && rt run) < /dev/null 2>&1 | tee $(BUILD_LOG) | { $(PROOFS); }
 	@test -x $(BINARY) || { tail -n 20 $(BUILD_LOG); echo 'The build failed. All that it printed is in $(BUILD_LOG).'; exit 1; }
