@@ -1,0 +1,12 @@
+pub mod AHeader
+pub mod ByName
+pub mod CellOf
+pub mod CellsRead
+pub mod HeaderAnswers
+pub mod OneRow
+pub mod Plain
+pub mod ReadAgain
+pub mod Rising
+pub mod RowAnswers
+pub mod RowFacts
+pub mod RowTexts
