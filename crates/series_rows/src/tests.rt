@@ -11,6 +11,7 @@ use record_cut::{Cutter, Fields};
 use rule_file::{Rules, read_rules};
 use screen_model::Series;
 use std::alloc::Global;
+use std::process::Abort;
 use std::test::Fail;
 use time_text::TimeFault;
 
@@ -71,7 +72,7 @@ type HeaderCase = (
 
 const FIRST_IS_TIME: [HeaderCase; 12] = [
     (b"time,x,y", Some((1, &[2, 3])), None),
-    (b"time, x ,\t\"y\"", Some((1, &[2, 3])), None),
+    (b"time, x ,\"\ty\"", Some((1, &[2, 3])), None),
     (b",y,,x,", Some((1, &[2, 4])), None),
     (b"x,\"a,x\",y,x,Y", Some((1, &[3, 4])), None),
     (b"time,y", None, Some((TableCause::NoSuchSensor { rule: 1 }, 0))),
@@ -100,12 +101,17 @@ const TIME_IS_A_SENSOR: [HeaderCase; 3] = [
 ];
 
 /// Reads each header, and looks at all that it tells.
-fn check_headers(rt: &HostRuntime, format: &str, cases: &[HeaderCase]) -> Result<(), Fail> {
-    let rules = rules_with(rt.alloc(), format)?;
+fn check_headers(
+    rt: &impl Abort,
+    alloc: Global,
+    format: &str,
+    cases: &[HeaderCase],
+) -> Result<(), Fail> {
+    let rules = rules_with(alloc, format)?;
     for case in cases {
         let (line, header, fault) = *case;
-        let fields = cut(rt.alloc(), b',', line)?;
-        match (read_header(rt.alloc(), &rules, fields), header) {
+        let fields = cut(alloc, b',', line)?;
+        match (read_header(alloc, &rules, fields), header) {
             (Ok(read), Some((time_col, columns))) => {
                 assert_eq!(rt; read.time_col(), time_col);
                 assert_eq!(rt; read.sensor_columns(), columns);
@@ -115,7 +121,7 @@ fn check_headers(rt: &HostRuntime, format: &str, cases: &[HeaderCase]) -> Result
                 assert_eq!(rt; read.sensor_col(3), None);
                 assert_eq!(rt; read.col_of(b" x"), None);
                 assert_eq!(rt; read.col_of(b"t"), None);
-                let copy = read.copy(rt.alloc())?;
+                let copy = read.copy(alloc)?;
                 assert_eq!(rt; copy.sensor_columns(), columns);
                 assert_eq!(rt; copy.fields().width(), read.width());
             }
@@ -131,9 +137,10 @@ fn check_headers(rt: &HostRuntime, format: &str, cases: &[HeaderCase]) -> Result
 
 #[test]
 fn headers_have_their_columns_or_their_first_fault(rt: HostRuntime) -> Result<(), Fail> {
-    check_headers(&rt, "", &FIRST_IS_TIME)?;
-    check_headers(&rt, "time = \"t\"\n", &TIME_IS_NAMED)?;
-    check_headers(&rt, "time = \"x\"\n", &TIME_IS_A_SENSOR)
+    let alloc = rt.alloc();
+    check_headers(&rt, alloc, "", &FIRST_IS_TIME)?;
+    check_headers(&rt, alloc, "time = \"t\"\n", &TIME_IS_NAMED)?;
+    check_headers(&rt, alloc, "time = \"x\"\n", &TIME_IS_A_SENSOR)
 }
 
 #[test]
@@ -275,7 +282,8 @@ fn written(alloc: Global, rules: &Rules, row: &Row, value: i64) -> Result<Vec<u8
 /// Writes the header of the first line and the row of the second, in which each reading is replaced by this value, and
 /// reads the third line, which that should be.
 fn check_text(
-    rt: &HostRuntime,
+    rt: &impl Abort,
+    alloc: Global,
     sep: u8,
     rules: &Rules,
     lines: [&[u8]; 3],
@@ -284,7 +292,6 @@ fn check_text(
     requires separator { IsTrue (is_separator sep) }
     requires small { unsigned_abs value ≤ unsigned_abs MOST_UNITS }
 {
-    let alloc = rt.alloc();
     let header = read_header(alloc, rules, cut(alloc, sep, lines[0])?)?;
     let text = header_text(alloc, rules, &header)?;
     assert_eq!(rt; text.as_slice(), lines[0]);
@@ -311,7 +318,7 @@ fn rows_are_written_with_other_values(rt: HostRuntime) -> Result<(), Fail> {
         b"\"5\", 1.50 ,NA,\"a,b\"\r\n",
         b"5,-0.1,NA,\"a,b\"\n",
     ];
-    check_text(&rt, b',', &rules, lines, -1)?;
+    check_text(&rt, rt.alloc(), b',', &rules, lines, -1)?;
     let format = "separator = \";\"\ntime = \"t\"\nextra = \"round\"\n";
     let rules = rules_with(rt.alloc(), format)?;
     let lines: [&[u8]; 3] = [
@@ -319,7 +326,7 @@ fn rows_are_written_with_other_values(rt: HostRuntime) -> Result<(), Fail> {
         b"1.25; 5 ;-1.25;",
         b"100000000000000.0; 5 ;100000000000000.0;\n",
     ];
-    check_text(&rt, b';', &rules, lines, 1_000_000_000_000_000)?;
+    check_text(&rt, rt.alloc(), b';', &rules, lines, 1_000_000_000_000_000)?;
     let fields = cut(rt.alloc(), b';', lines[0])?;
     let header = read_header(rt.alloc(), &rules, fields)?;
     let fields = cut(rt.alloc(), b';', b"1.25; 5 ;-1.25;")?;
@@ -328,10 +335,10 @@ fn rows_are_written_with_other_values(rt: HostRuntime) -> Result<(), Fail> {
     assert_eq!(rt; row.cell(3), Some(Cell::Reading(-13)));
     let rules = rules_with(rt.alloc(), "separator = \"\\t\"\n")?;
     let lines: [&[u8]; 3] = [b"time\tx\ty\n", b"5\t1e2\t\"\t\"", b"5\t0.0\t\"\t\"\n"];
-    check_text(&rt, b'\t', &rules, lines, 0)?;
+    check_text(&rt, rt.alloc(), b'\t', &rules, lines, 0)?;
     let rules = rules_with(rt.alloc(), "separator = \"|\"\n")?;
     let lines: [&[u8]; 3] = [b"|y,|x|y\n", b"5|,|null|7", b"5|,|null|123.4\n"];
-    check_text(&rt, b'|', &rules, lines, 1_234)
+    check_text(&rt, rt.alloc(), b'|', &rules, lines, 1_234)
 }
 
 /// Rules of so many sensors, and the line of their header and of a row in which each other one has a reading.
@@ -354,5 +361,5 @@ fn a_row_may_have_many_readings(rt: HostRuntime) -> Result<(), Fail> {
     changed.push(b'\n')?;
     let rules = read_rules(alloc, text.as_bytes())?;
     let lines = [names.as_slice(), line.as_slice(), changed.as_slice()];
-    check_text(&rt, b',', &rules, lines, 8)
+    check_text(&rt, rt.alloc(), b',', &rules, lines, 8)
 }
