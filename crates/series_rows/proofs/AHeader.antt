@@ -8,7 +8,7 @@ use Rattle.series_rows.specs.Header.{HeaderView, ReadsHeader, columns_of, time_c
 use Rattle.series_rows.specs.Kept.{header_view}
 use Rattle.series_rows.specs.declared.fault.TableCause.TheVariants.{TooManyColumns}
 use Rattle.series_rows.specs.declared.fault.TableFault.{TableFault}
-use Rattle.series_rows.specs.declared.limits.TheConstants.{MOST_COLUMNS}
+use Rattle.screen_model.specs.declared.limits.TheConstants.{MOST_COLUMNS}
 
 module _ (rules : Rules) (fields : List (List ℕ)) where
   abbrev HasAnswer : Type 0

@@ -9,7 +9,7 @@ use Rattle.series_rows.specs.Kept.{KeepsRow}
 use Rattle.series_rows.specs.declared.cell.Cell.{Cell}
 use Rattle.series_rows.specs.declared.cell.Cell.TheVariants.{Missing, Reading, Text}
 use Rattle.series_rows.specs.declared.cell.RowReading.{RowReading}
-use Rattle.series_rows.specs.declared.limits.TheConstants.{MOST_COLUMNS}
+use Rattle.screen_model.specs.declared.limits.TheConstants.{MOST_COLUMNS}
 use Rattle.series_rows.proofs.Rising.{rise_length}
 
 pub no_reading : RowReading

@@ -7,7 +7,7 @@ use Rattle.series_rows.specs.Header.{IsHeader, RefusesHeader, HeaderView, column
 use Rattle.series_rows.specs.Kept.{header_view, KeepsHeader}
 use Rattle.series_rows.specs.declared.fault.TableCause.TheVariants.{TooManyColumns}
 use Rattle.series_rows.specs.declared.fault.TableFault.{TableFault}
-use Rattle.series_rows.specs.declared.limits.TheConstants.{MOST_COLUMNS}
+use Rattle.screen_model.specs.declared.limits.TheConstants.{MOST_COLUMNS}
 use Rattle.series_rows.proofs.ByName.{time_within}
 
 pub too_many_fields : (rules : Rules) (fields : List (List ℕ)) (fault : TableFault) → MOST_COLUMNS < length fields → fault ≡ fault_at 0 0 TooManyColumns → RefusesHeader rules fields fault

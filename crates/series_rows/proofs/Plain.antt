@@ -15,8 +15,7 @@ use Rattle.words.proofs.Lists.{reverse_cons}
 use Rattle.fix_point.specs.Grammar.{is_blank}
 use Rattle.fix_point.specs.Text.{places, decimals_text, minus_text, text_of_value}
 use Rattle.time_text.specs.Trimmed.{without_leading_blanks, without_trailing_blanks, trimmed}
-use Rattle.record_cut.specs.Bytes.{is_separator}
-use Rattle.rule_file.specs.Limits.{is_separator as of_rules}
+use Rattle.words.specs.Separators.{is_separator}
 use Rattle.record_cut.specs.Row.{holds_special, begins_with_mark, first_in_quotes, field_text, text_of_first, text_of_next}
 use Rattle.series_rows.specs.Cells.{is_missing, missing_words}
 use Rattle.series_rows.specs.Columns.{text_of_column}
@@ -64,10 +63,6 @@ plain_text v d small =
     }
 
 -- ---- it is written as it is
-
--- the separators of rule files are those of records
-pub same_separator : (sep : ℕ) → IsTrue (of_rules sep) → IsTrue (is_separator sep)
-same_separator sep h = grind (arith, nat_tests)
 
 not_separator : (sep c : ℕ) → IsTrue (is_separator sep) → IsPlain c → (c == sep) ≡ false
 not_separator sep c separates plain = grind (arith, nat_tests)

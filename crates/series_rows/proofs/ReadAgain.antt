@@ -8,7 +8,7 @@ use Rattle.fix_point.specs.Text.{text_of_value}
 use Rattle.fix_point.specs.declared.scale.Extra.{Extra}
 use Rattle.fix_point.specs.declared.scale.TheConstants.{MOST_UNITS}
 use Rattle.time_text.specs.Ticks as Ticks
-use Rattle.record_cut.specs.Bytes.{is_separator}
+use Rattle.words.specs.Separators.{is_separator}
 use Rattle.record_cut.specs.Record.{Nothing}
 use Rattle.record_cut.specs.Records.{Rest, records}
 use Rattle.record_cut.specs.Row.{text_of_row}
@@ -29,7 +29,7 @@ use Rattle.series_rows.specs.declared.cell.RowReading.{RowReading}
 use Rattle.series_rows.specs.declared.limits.Limits.{Limits}
 use Rattle.series_rows.proofs.ByName.{apart_from_time, left_apart, time_within}
 use Rattle.series_rows.proofs.CellsRead.{all_columns, readings_rise}
-use Rattle.series_rows.proofs.Plain.{plain_text, not_missing, same_separator}
+use Rattle.series_rows.proofs.Plain.{plain_text, not_missing}
 use Rattle.series_rows.proofs.Rising.{rise_above, rise_lower, rise_range, rise_within}
 use Rattle.series_rows.proofs.RowTexts.{length-replaced}
 
@@ -170,9 +170,6 @@ one_text : (cutting : RoundTrip) (sep : ℕ) (fields : List (List ℕ)) → IsTr
 one_text cutting sep fields separates some short =
     ap (records sep) (sym (append-nil (text_of_row sep fields))) ∙ cutting sep (fields ∷ []) separates (some, short, tt)
 
-separates : (format : Format) → IsTrue (is_separator format.separator)
-separates format = same_separator format.separator format.limits.separator
-
 misses_time : (time : ℕ) (cols : List ℕ) → AllByRecursion (λ c. c ≢ time) cols → (b last : ℕ) → Rise b cols last → Misses time cols
 misses_time time [] apart b last rise = tt
 misses_time time (c ∷ cols) apart b last rise = ((omega (arith, rise.0), apart.0), misses_time time cols apart.1 c last rise.2)
@@ -196,7 +193,7 @@ read_again law cutting rules names header limits before fields row values is rea
     let kept : field_at next header.time_col ≡ field_at row.fields header.time_col = replaced_elsewhere d row.fields row.readings values header.time_col time.0 (misses_time header.time_col (columns row.readings) apart 0 (length row.fields) readings) in
     let some : 0 < length next = omega (arith, long, wide, ap length is.fields_are, time.0, time.1) in
     record {
-      cut = λ short. one_text cutting rules.format.separator next (separates rules.format) some short;
+      cut = λ short. one_text cutting rules.format.separator next rules.format.limits.separator some short;
       read = record {
         fields_are = refl;
         time_col_is = reads.time_col_is;

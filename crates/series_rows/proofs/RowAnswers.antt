@@ -15,7 +15,7 @@ use Rattle.series_rows.specs.Row.{RowView, CellsView, columns, Rise}
 use Rattle.series_rows.specs.declared.fault.TableCause.{TableCause}
 use Rattle.series_rows.specs.declared.fault.TableCause.TheVariants.{NoHeader, TooManyColumns, NameTwice, NoSuchSensor, Width, Time, TimeNotRising, Value, TooManyRows, TooManyReadings, Cut, FileTooLong, Memory}
 use Rattle.series_rows.specs.declared.fault.TableFault.{TableFault}
-use Rattle.series_rows.specs.declared.limits.TheConstants.{MOST_COLUMNS}
+use Rattle.screen_model.specs.declared.limits.TheConstants.{MOST_COLUMNS}
 use Rattle.series_rows.specs.declared.limits.Limits.{Limits}
 use Rattle.series_rows.proofs.CellsRead.{readings_rise}
 use Rattle.series_rows.proofs.RowFacts.{sensors_rise}

@@ -8,7 +8,7 @@ use Rattle.rule_file.specs.declared.rules.Rules.{Rules}
 use Rattle.series_rows.specs.Faults.{fault_at}
 use Rattle.series_rows.specs.declared.fault.TableCause.TheVariants.{TooManyColumns, NameTwice, NoSuchSensor}
 use Rattle.series_rows.specs.declared.fault.TableFault.{TableFault}
-use Rattle.series_rows.specs.declared.limits.TheConstants.{MOST_COLUMNS}
+use Rattle.screen_model.specs.declared.limits.TheConstants.{MOST_COLUMNS}
 
 -- What contracts see of a header. Columns are counted from 1.
 pub record HeaderView : Type 0 where

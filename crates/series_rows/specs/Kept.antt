@@ -4,7 +4,8 @@ use Rattle.series_rows.specs.Before.{BeforeView}
 use Rattle.series_rows.specs.Header.{HeaderView, sensor_columns}
 use Rattle.series_rows.specs.Row.{RowView, CellsView, columns, Rise}
 use Rattle.series_rows.specs.declared.cells.SensorCells.{SensorCells}
-use Rattle.series_rows.specs.declared.limits.TheConstants.{MOST_COLUMNS, MOST_ENDLESS_ROWS}
+use Rattle.screen_model.specs.declared.limits.TheConstants.{MOST_COLUMNS}
+use Rattle.series_rows.specs.declared.limits.TheConstants.{MOST_ENDLESS_ROWS}
 
 abbrev pub header_view : List (List ℕ) → ℕ → List ℕ → HeaderView
 header_view fields time_col sensor_cols = record { fields = fields; time_col = time_col; sensor_cols = sensor_cols }

@@ -11,7 +11,8 @@ use Rattle.series_rows.specs.Row.{RowView, CellsView}
 use Rattle.series_rows.specs.declared.fault.TableCause.{TableCause}
 use Rattle.series_rows.specs.declared.fault.TableCause.TheVariants.{NoHeader, TooManyColumns, NameTwice, NoSuchSensor, Width, Time, TimeNotRising, Value, TooManyRows, TooManyReadings, Cut, FileTooLong, Memory}
 use Rattle.series_rows.specs.declared.fault.TableFault.{TableFault}
-use Rattle.series_rows.specs.declared.limits.TheConstants.{MOST_ROWS, MOST_ENDLESS_ROWS, MOST_READINGS}
+use Rattle.screen_model.specs.declared.limits.TheConstants.{MOST_ROWS, MOST_READINGS}
+use Rattle.series_rows.specs.declared.limits.TheConstants.{MOST_ENDLESS_ROWS}
 use Rattle.series_rows.specs.declared.limits.Limits.{Limits}
 use Rattle.series_rows.specs.declared.limits.Limits.TheVariants.{Whole, Endless}
 

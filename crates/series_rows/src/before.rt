@@ -1,7 +1,8 @@
 //! What stands before a row.
 
-use crate::limits::{MOST_COLUMNS, MOST_ENDLESS_ROWS};
+use crate::limits::MOST_ENDLESS_ROWS;
 use crate::row::Row;
+use screen_model::MOST_COLUMNS;
 use std::marker::Model;
 
 /// What stands before a record that is read as a row: how many rows, with how many readings, and the time of the last.

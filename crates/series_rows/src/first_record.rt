@@ -10,9 +10,9 @@ use crate::column::the_only_column;
 use crate::fault::{TableCause, TableFault};
 use crate::header::Header;
 use crate::laws::one_header;
-use crate::limits::MOST_COLUMNS;
 use record_cut::Fields;
 use rule_file::{Format, Rules};
+use screen_model::MOST_COLUMNS;
 use sequence::Sequence;
 use std::alloc::{AllocError, Global};
 

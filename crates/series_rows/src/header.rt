@@ -1,8 +1,8 @@
 //! The header of a readings file.
 
 use crate::column::{bears, field_in};
-use crate::limits::MOST_COLUMNS;
 use record_cut::Fields;
+use screen_model::MOST_COLUMNS;
 use sequence::Sequence;
 use std::alloc::{AllocError, Global};
 use std::marker::Model;

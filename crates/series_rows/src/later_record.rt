@@ -14,10 +14,11 @@ use crate::column::field_in;
 use crate::fault::{TableCause, TableFault};
 use crate::header::Header;
 use crate::laws::one_row;
-use crate::limits::{Limits, MOST_READINGS};
+use crate::limits::Limits;
 use crate::row::Row;
 use record_cut::Fields;
 use rule_file::Rules;
+use screen_model::MOST_READINGS;
 use std::alloc::Global;
 use time_text::{TimeFault, ticks};
 
@@ -115,7 +116,7 @@ fn are_too_many(limits: Limits, before: u64, count: usize) -> bool
     ensures { MatchBool result (AreTooMany limits (before + count)) (AreFew limits (before + count)) }
 {
     match limits {
-        Limits::Whole => before.saturating_add(count as u64) > MOST_READINGS,
+        Limits::Whole => before.saturating_add(count as u64) > u64::from(MOST_READINGS),
         Limits::Endless => false,
     }
 }

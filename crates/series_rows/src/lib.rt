@@ -24,7 +24,7 @@ pub use cell::{Cell, RowReading};
 pub use fault::{TableCause, TableFault};
 pub use header::Header;
 pub use laws::{a_header, a_row, one_header, one_row, rows_are_read_back};
-pub use limits::{Limits, MOST_COLUMNS, MOST_ENDLESS_ROWS, MOST_READINGS, MOST_ROWS};
+pub use limits::{Limits, MOST_ENDLESS_ROWS};
 pub use first_record::read_header;
 pub use later_record::read_row;
 pub use row::Row;

@@ -2,17 +2,10 @@
 ghost use Rattle.std.specs.Prelude.{◌≡◌};
 ghost use Rattle.series_rows.specs.ReadsRow.{most_rows};
 
-/// The most columns.
-pub const MOST_COLUMNS: u32 = 256;
-
-/// The most rows of a table.
-pub const MOST_ROWS: u32 = 200_000;
+use screen_model::MOST_ROWS;
 
 /// The most rows of a stream.
 pub const MOST_ENDLESS_ROWS: u32 = 4_000_000_000;
-
-/// The most readings of a table.
-pub const MOST_READINGS: u64 = 400_000;
 
 /// How much a readings file may hold.
 #[derive(Clone, Copy, Debug, PartialEq, Eq)]

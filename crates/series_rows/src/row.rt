@@ -4,8 +4,8 @@ ghost use Rattle.series_rows.specs.Row.{sensor_cell};
 
 use crate::cell::{Cell, RowReading};
 use crate::cells::SensorCells;
-use crate::limits::MOST_COLUMNS;
 use record_cut::Fields;
+use screen_model::MOST_COLUMNS;
 use std::marker::Model;
 
 /// A row of a readings file. It keeps its fields as they were read, and what the rules need of them.

@@ -1,6 +1,6 @@
 //! Headers and rows, with what refuses them, and their texts.
 ghost use Rattle.std.specs.Prelude.{◌≤◌, IsTrue, unsigned_abs};
-ghost use Rattle.record_cut.specs.Bytes.{is_separator};
+ghost use Rattle.words.specs.Separators.{is_separator};
 
 use crate::{
     Cell, Header, Limits, Row, RowsBefore, TableCause, TableFault, header_text, read_header,
