@@ -3,6 +3,7 @@ pub mod ByName
 pub mod CellOf
 pub mod CellsRead
 pub mod HeaderAnswers
+pub mod Kept
 pub mod OneRow
 pub mod Plain
 pub mod ReadAgain

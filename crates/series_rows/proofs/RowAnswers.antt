@@ -18,8 +18,7 @@ use Rattle.series_rows.specs.declared.fault.TableFault.{TableFault}
 use Rattle.screen_model.specs.declared.limits.TheConstants.{MOST_COLUMNS}
 use Rattle.series_rows.specs.declared.limits.Limits.{Limits}
 use Rattle.series_rows.proofs.CellsRead.{readings_rise}
-use Rattle.series_rows.proofs.RowFacts.{sensors_rise}
-use Rattle.series_rows.proofs.Rising.{rise_within}
+use Rattle.series_rows.proofs.RowFacts.{sensors_rise, sensors_within}
 
 -- the fault of a time field
 pub time_fault : (rules : Rules) (before : BeforeView) (row col : ℕ) (field : List ℕ) (cause : TableCause) (fault : TableFault) → fault ≡ fault_at row col cause → row ≡ suc before.rows → RefusesTime rules before field cause → IsTimeFault rules before col field fault
@@ -32,7 +31,7 @@ for_memory R fault is other = absurd (other is)
 
 -- the sensor columns are columns of a record that is as wide as the header
 pub columns_within : (header : HeaderView) (fields : List (List ℕ)) → length fields ≡ length header.fields → AllByRecursion (IsWithin (length fields)) (sensor_columns header)
-columns_within header fields width = subst (λ n. AllByRecursion (IsWithin n) (sensor_columns header)) (sym width) (rise_within 0 (sensor_columns header) (length header.fields) (sensors_rise header))
+columns_within header fields width = subst (λ n. AllByRecursion (IsWithin n) (sensor_columns header)) (sym width) (sensors_within header)
 
 module _ (rules : Rules) (header : HeaderView) (limits : Limits) (before : BeforeView) (fields : List (List ℕ)) where
   -- a fault with its cause

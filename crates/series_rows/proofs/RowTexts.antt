@@ -2,6 +2,7 @@
 use Rattle.std.proofs.Common.{◌≡◌, ◌≢◌, ℕ, zero, suc, ◌+◌, ◌-◌, ◌<◌, ◌≤◌, ◌==◌, ◌⊎◌, inl, inr, Bool, true, false, ℤ, pos, List, [], ◌∷◌, ◌++◌, length, get_or, set, drop, map, Some, refl, sym, ap, subst, ◌∙◌, arith, append_assoc, length-set}
 use Rattle.std.specs.Prelude.{if◌then◌else◌}
 use Rattle.std.specs.Prelude.{OnOk, Result}
+use Rattle.std.specs.List.{AllByRecursion}
 use Rattle.std.proofs.lemmas.Bool.Decides.{nat_tests, eqb_tells, Decides-eqb, not_from_Decides}
 use Rattle.std.proofs.lemmas.List.{drop_more, drop_all}
 use Rattle.std.proofs.lemmas.Result.{IfOk-equal}
@@ -230,3 +231,30 @@ value_first r new old text column is written = IfOk-equal r new (old ++ text) (o
 pub value_later : {T E : Type 0} (r : Result T E) (new old pushed text column : List ℕ) (sep : ℕ) → column ≡ sep ∷ text → pushed ≡ old ++ sep ∷ [] → OnOk r (new ≡ pushed ++ text) → OnOk r (new ≡ old ++ column)
 value_later r new old pushed text column sep is first written =
     IfOk-equal r new (pushed ++ text) (old ++ column) written (ap (λ s. s ++ text) first ∙ append_assoc old (sep ∷ []) text ∙ ap (λ s. old ++ s) (sym is))
+
+-- ---- the loop over the columns
+
+pub begun : (format : Format) (row : RowView) (values : List ℤ) (text : List ℕ) → 1 ≤ length row.fields → length values ≡ length row.readings → Rise 0 (columns row.readings) (length row.fields)
+    → text ++ left_to_write format row values 0 0 ≡ text ++ text_of_row format.separator (replaced format.decimals row.fields row.readings values)
+begun format row values text some count rise = ap (λ s. text ++ s) (all_to_write format row values some count rise)
+
+pub one_written : (format : Format) (row : RowView) (values : List ℤ) (i next after : ℕ) (text more all : List ℕ) → text ++ left_to_write format row values i next ≡ all
+    → more ++ left_to_write format row values (i + 1) after ≡ text ++ left_to_write format row values ((i + 1) - 1) next
+    → more ++ left_to_write format row values (i + 1) after ≡ all
+one_written format row values i next after text more all so_far rest =
+    rest ∙ ap (λ k. text ++ left_to_write format row values k next) (let same : (i + 1) - 1 ≡ i = omega arith in same) ∙ so_far
+
+pub row_ended : {T E : Type 0} (r : Result T E) (format : Format) (row : RowView) (values : List ℤ) (i next : ℕ) (text new all : List ℕ) → length row.fields ≤ i
+    → text ++ left_to_write format row values i next ≡ all → OnOk r (new ≡ text ++ line_feed ∷ []) → OnOk r (new ≡ all)
+row_ended r format row values i next text new all h so_far written =
+    IfOk-equal r new (text ++ line_feed ∷ []) all written (ap (λ s. text ++ s) (sym (none_to_write format row values i next h)) ∙ so_far)
+
+-- the value of the reading that is written
+pub value_at : (P : ℤ → Type 0) (values : List ℤ) (i : ℕ) → AllByRecursion P values → i < length values → P (get_or values i (pos 0))
+value_at P [] i all h = absurd (omega arith)
+value_at P (value ∷ values) zero all h = all.0
+value_at P (value ∷ values) (suc i) all h = value_at P values i all.1 (omega arith)
+
+-- there is one
+pub value_there : (readings : List RowReading) (values : List ℤ) (next col : ℕ) → length values ≡ length readings → is_at (drop next readings) col ≡ true → next < length values
+value_there readings values next col count here = let head = is_head readings next col no_reading here in omega (arith, head.0, count)

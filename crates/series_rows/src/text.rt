@@ -1,7 +1,7 @@
 //! The texts of a header and of a row.
 ghost use Rattle.std.specs.Prelude.{◌≡◌, ℕ, ◌-◌, ◌≤◌, ◌++◌, drop, length, unsigned_abs, IfOk, OnOk, OnErr};
 ghost use Rattle.fix_point.specs.Text.{text_of_value};
-ghost use Rattle.series_rows.specs.Columns.{is_at, left_to_write, text_of_column};
+ghost use Rattle.series_rows.specs.Columns.{BeginsAs, is_at, left_to_write, text_of_column};
 ghost use Rattle.series_rows.specs.ReadBack.{AreValuesOf};
 ghost use Rattle.series_rows.specs.Texts.{header_text, row_text_with};
 
@@ -45,7 +45,12 @@ pub fn push_header(text: &mut Vec<u8>, rules: &Rules, header: &Header) -> Result
     ensures ok { OnOk result (text.new.items ≡ text.old.items ++ header_text rules.now header.now) }
     ensures err { OnErr result (text.new.items ≡ text.old.items) }
 {
-    push_row(text, header.fields(), rules.format.separator)
+    let len = text.len();
+    let pushed = push_row(text, header.fields(), rules.format.separator);
+    if pushed.is_err() {
+        text.truncate(len);
+    }
+    pushed
 }
 
 /// Adds the text of a row with these values at the end, as `row_with`. Where memory runs out the text stays as it was.
@@ -75,7 +80,8 @@ fn push_fields_with(
     values: &[i64],
 ) -> Result<(), AllocError>
     requires { AreValuesOf row.now values.now }
-    ensures { OnOk result (text.new.items ≡ text.old.items ++ row_text_with rules.now row.now values.now) }
+    ensures ok { OnOk result (text.new.items ≡ text.old.items ++ row_text_with rules.now row.now values.now) }
+    ensures kept { BeginsAs text.old.items text.new.items }
 {
     let mut next = 0;
     for i in 0..row.fields().width() {
@@ -101,6 +107,7 @@ fn push_column(
         text.new.items ++ left_to_write format.now row.now values.now col after
         ≡ text.old.items ++ left_to_write format.now row.now values.now (col - 1) next) }
     ensures within { IfOk result (λ after. after ≤ length row.now.readings) }
+    ensures kept { BeginsAs text.old.items text.new.items }
 {
     let fields = row.fields();
     if is_next(row.readings(), next, col) {
@@ -126,8 +133,9 @@ fn is_next(readings: &[RowReading], next: usize, col: u32) -> bool
 fn push_value(text: &mut Vec<u8>, format: &Format, col: u32, value: i64) -> Result<(), AllocError>
     requires least { 1 ≤ col }
     requires small { unsigned_abs value ≤ unsigned_abs MOST_UNITS }
-    ensures { (width : ℕ) → OnOk result
+    ensures ok { (width : ℕ) → OnOk result
         (text.new.items ≡ text.old.items ++ text_of_column format.now.separator width col (text_of_value value format.now.decimals)) }
+    ensures kept { BeginsAs text.old.items text.new.items }
 {
     if col == 1 {
         return push_text_of(text, i128::from(value), format.decimals);
@@ -145,7 +153,8 @@ fn push_unchanged(
     sep: u8,
 ) -> Result<(), AllocError>
     requires { 1 ≤ col }
-    ensures { OnOk result (text.new.items ≡ text.old.items ++ text_of_column sep width col field.now) }
+    ensures ok { OnOk result (text.new.items ≡ text.old.items ++ text_of_column sep width col field.now) }
+    ensures kept { BeginsAs text.old.items text.new.items }
 {
     if col == 1 {
         push_first_field(text, field, width, sep)
