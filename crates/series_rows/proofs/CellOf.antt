@@ -12,7 +12,7 @@ use Rattle.series_rows.specs.declared.cell.RowReading.{RowReading}
 use Rattle.screen_model.specs.declared.limits.TheConstants.{MOST_COLUMNS}
 use Rattle.series_rows.proofs.Rising.{rise_length}
 
-pub no_reading : RowReading
+abbrev pub no_reading : RowReading
 no_reading = record { col = 0; value = pos 0 }
 
 cell_next : (readings : List RowReading) (missing : List ℕ) (i col : ℕ) (d : RowReading) → i < length readings

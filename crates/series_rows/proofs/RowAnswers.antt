@@ -4,6 +4,7 @@ use Rattle.std.specs.List.{AllByRecursion}
 use Rattle.words.specs.Answers.{UnlessMemory}
 use Rattle.fix_point.specs.declared.scale.NumFault.{NumFault}
 use Rattle.time_text.specs.Ticks as Ticks
+use Rattle.rule_file.specs.declared.rules.Format.{Format}
 use Rattle.rule_file.specs.declared.rules.Rules.{Rules}
 use Rattle.series_rows.specs.Before.{BeforeView}
 use Rattle.series_rows.specs.Faults.{fault_at, of_memory}
@@ -25,13 +26,18 @@ pub time_fault : (rules : Rules) (before : BeforeView) (row col : ℕ) (field : 
 time_fault rules before row col field cause fault is number refuses =
     subst (IsTimeFault rules before col field) (sym is) (ap (λ n. fault_at n col cause) number, refuses)
 
--- a fault that stands for want of memory needs no reason
-pub for_memory : {A : Type 0} (R : TableFault → Type 0) (fault : TableFault) → fault ≡ of_memory → fault ≢ of_memory → R fault
-for_memory R fault is other = absurd (other is)
-
 -- the sensor columns are columns of a record that is as wide as the header
 pub columns_within : (header : HeaderView) (fields : List (List ℕ)) → length fields ≡ length header.fields → AllByRecursion (IsWithin (length fields)) (sensor_columns header)
 columns_within header fields width = subst (λ n. AllByRecursion (IsWithin n) (sensor_columns header)) (sym width) (sensors_within header)
+
+-- the row keeps what rows keep
+pub row_keeps : (format : Format) (header : HeaderView) (fields : List (List ℕ)) (ticks : ℤ) (time : ℕ) (cells : CellsView) → length fields ≡ length header.fields → 1 ≤ length header.fields → length header.fields ≤ MOST_COLUMNS
+    → AreCells format fields (sensor_columns header) cells → KeepsRow (row_view fields ticks time cells)
+row_keeps format header fields ticks time cells width least most are = record {
+  some = omega (arith, width, least);
+  few = omega (arith, width, most);
+  rise = readings_rise format fields 0 (sensor_columns header) (length fields) cells are (subst (Rise 0 (sensor_columns header)) (sym width) (sensors_rise header));
+}
 
 module _ (rules : Rules) (header : HeaderView) (limits : Limits) (before : BeforeView) (fields : List (List ℕ)) where
   -- a fault with its cause
@@ -61,16 +67,6 @@ module _ (rules : Rules) (header : HeaderView) (limits : Limits) (before : Befor
   pub cell_refused : (ticks : ℤ) → IsTimed rules header limits before fields ticks → (row : ℕ) → row ≡ suc before.rows → (fault : TableFault) → IsFirstRefused row rules.format fields (sensor_columns header) fault → ReadsRow rules header limits before fields (Err fault)
   cell_refused ticks timed row number fault (refusal, is, first) =
       (ap (λ (f : TableFault). f.row) is ∙ number, subst (λ cause. HasCause rules header limits before fields cause fault.col) (sym (ap (λ (f : TableFault). f.cause) is)) ((ticks, timed), first))
-
-  -- the row keeps what rows keep
-  pub row_keeps : (ticks : ℤ) (cells : CellsView) → HasCells rules header limits before fields ticks cells → 1 ≤ length header.fields → length header.fields ≤ MOST_COLUMNS → KeepsRow (row_view fields ticks header.time_col cells)
-  row_keeps ticks cells has least most =
-      let width = has.timed.fits.width in
-      record {
-        some = omega (arith, width, least);
-        few = omega (arith, width, most);
-        rise = readings_rise rules.format fields 0 (sensor_columns header) (length fields) cells has.cells_are (subst (Rise 0 (sensor_columns header)) (sym width) (sensors_rise header));
-      }
 
   -- the record is a row
   pub row_read : (ticks : ℤ) (cells : CellsView) (row : RowView) → row ≡ row_view fields ticks header.time_col cells → HasCells rules header limits before fields ticks cells → AreFew limits (before.readings + length cells.readings) → ReadsRow rules header limits before fields (Ok row)

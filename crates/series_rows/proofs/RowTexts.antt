@@ -1,11 +1,13 @@
 -- The text of a row, column by column.
-use Rattle.std.proofs.Common.{◌≡◌, ◌≢◌, ℕ, zero, suc, ◌+◌, ◌-◌, ◌<◌, ◌≤◌, ◌==◌, ◌⊎◌, inl, inr, Bool, true, false, ℤ, pos, List, [], ◌∷◌, ◌++◌, length, get_or, set, drop, map, Some, refl, sym, ap, subst, ◌∙◌, arith, append_assoc, length-set}
+use Rattle.std.proofs.Common.{◌≡◌, ◌≢◌, ℕ, zero, suc, ◌+◌, ◌-◌, ◌<◌, ◌≤◌, ◌==◌, ◌⊎◌, inl, inr, Bool, true, false, ℤ, pos, List, [], ◌∷◌, ◌++◌, length, get_or, set, drop, map, Some, refl, sym, ap, subst, ◌∙◌, arith, append_assoc, length-set, to_z, of_z, w64}
 use Rattle.std.specs.Prelude.{if◌then◌else◌}
-use Rattle.std.specs.Prelude.{OnOk, Result}
+use Rattle.std.specs.Prelude.{OnOk, Result, unsigned_abs}
 use Rattle.std.specs.List.{AllByRecursion}
 use Rattle.std.proofs.lemmas.Bool.Decides.{nat_tests, eqb_tells, Decides-eqb, not_from_Decides}
 use Rattle.std.proofs.lemmas.List.{drop_more, drop_all}
 use Rattle.std.proofs.lemmas.Result.{IfOk-equal}
+use Rattle.std.proofs.lemmas.Int.{ints}
+use Rattle.fix_point.specs.declared.scale.TheConstants.{MOST_UNITS}
 use Rattle.fix_point.specs.Text.{text_of_value}
 use Rattle.record_cut.specs.Bytes.{line_feed}
 use Rattle.record_cut.specs.Row.{text_of_first, text_of_next, text_of_others, text_of_row}
@@ -15,6 +17,7 @@ use Rattle.rule_file.specs.declared.rules.Format.{Format}
 use Rattle.series_rows.specs.Row.{RowView, columns, Rise}
 use Rattle.series_rows.specs.Texts.{replaced}
 use Rattle.series_rows.specs.declared.cell.RowReading.{RowReading}
+use Rattle.series_rows.proofs.CellOf.{no_reading}
 use Rattle.series_rows.proofs.Rising.{rise_lower}
 
 -- ---- from the text of a row to that of its columns
@@ -158,9 +161,6 @@ is_head [] (suc next) col d h = absurd cc
 is_head (reading ∷ readings) zero col d h = (omega arith, (Decides-eqb reading.col col).0 h)
 is_head (reading ∷ readings) (suc next) col d h = let more = is_head readings next col d h in (omega (arith, more.0), more.1)
 
-pub no_reading : RowReading
-no_reading = record { col = 0; value = pos 0 }
-
 pub head_none : (readings : List RowReading) (next col : ℕ) → length readings ≤ next → is_at (drop next readings) col ≡ false
 head_none readings next col h = ap (λ rs. is_at rs col) (drop_all next readings h)
 
@@ -258,3 +258,10 @@ value_at P (value ∷ values) (suc i) all h = value_at P values i all.1 (omega a
 -- there is one
 pub value_there : (readings : List RowReading) (values : List ℤ) (next col : ℕ) → length values ≡ length readings → is_at (drop next readings) col ≡ true → next < length values
 value_there readings values next col count here = let head = is_head readings next col no_reading here in omega (arith, head.0, count)
+
+-- and it is a number of 64 bits
+pub value_fits : (readings : List RowReading) (values : List ℤ) (next col : ℕ) → length values ≡ length readings → AllByRecursion (λ value. unsigned_abs value ≤ unsigned_abs MOST_UNITS) values → is_at (drop next readings) col ≡ true
+    → to_z w64 (of_z w64 (get_or values next (pos 0))) ≡ get_or values next (pos 0)
+value_fits readings values next col count small here =
+    let within = value_at (λ value. unsigned_abs value ≤ unsigned_abs MOST_UNITS) values next small (value_there readings values next col count here) in
+    omega (arith, ints, within)

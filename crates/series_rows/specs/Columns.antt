@@ -1,5 +1,5 @@
 -- For proofs: the text of a row, column by column.
-use Rattle.std.specs.Prelude.{◌≡◌, ℕ, suc, ◌==◌, Bool, false, ℤ, List, [], ◌∷◌, ◌++◌, length, take, drop, if◌then◌else◌}
+use Rattle.std.specs.Prelude.{ℕ, suc, ◌==◌, Bool, false, ℤ, List, [], ◌∷◌, ◌++◌, length, drop, if◌then◌else◌}
 use Rattle.fix_point.specs.Text.{text_of_value}
 use Rattle.record_cut.specs.Bytes.{line_feed}
 use Rattle.record_cut.specs.Row.{text_of_first, text_of_next}
@@ -34,7 +34,3 @@ is_at (reading ∷ readings) col = reading.col == col
 abbrev pub left_to_write : Format → RowView → List ℤ → ℕ → ℕ → List ℕ
 left_to_write format row values columns count =
     text_from format.separator (length row.fields) (suc columns) (merged format.decimals (suc columns) (drop columns row.fields) (drop count row.readings) (drop count values))
-
--- what stood in the text stands there still, first
-abbrev pub BeginsAs : List ℕ → List ℕ → Type 0
-BeginsAs before now = take (length before) now ≡ before

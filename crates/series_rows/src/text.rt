@@ -1,7 +1,8 @@
 //! The texts of a header and of a row.
 ghost use Rattle.std.specs.Prelude.{◌≡◌, ℕ, ◌-◌, ◌≤◌, ◌++◌, drop, length, unsigned_abs, IfOk, OnOk, OnErr};
+ghost use Rattle.std.specs.Io.{StartsWith};
 ghost use Rattle.fix_point.specs.Text.{text_of_value};
-ghost use Rattle.series_rows.specs.Columns.{BeginsAs, is_at, left_to_write, text_of_column};
+ghost use Rattle.series_rows.specs.Columns.{is_at, left_to_write, text_of_column};
 ghost use Rattle.series_rows.specs.ReadBack.{AreValuesOf};
 ghost use Rattle.series_rows.specs.Texts.{header_text, row_text_with};
 
@@ -81,8 +82,10 @@ fn push_fields_with(
 ) -> Result<(), AllocError>
     requires { AreValuesOf row.now values.now }
     ensures ok { OnOk result (text.new.items ≡ text.old.items ++ row_text_with rules.now row.now values.now) }
-    ensures kept { BeginsAs text.old.items text.new.items }
+    ensures front { StartsWith text.new.items text.old.items }
 {
+    // The columns of the readings go up; the proof rests on it.
+    let _readings = row.readings();
     let mut next = 0;
     for i in 0..row.fields().width() {
         next = push_column(text, &rules.format, row, values, i + 1, next)?;
@@ -107,7 +110,7 @@ fn push_column(
         text.new.items ++ left_to_write format.now row.now values.now col after
         ≡ text.old.items ++ left_to_write format.now row.now values.now (col - 1) next) }
     ensures within { IfOk result (λ after. after ≤ length row.now.readings) }
-    ensures kept { BeginsAs text.old.items text.new.items }
+    ensures front { StartsWith text.new.items text.old.items }
 {
     let fields = row.fields();
     if is_next(row.readings(), next, col) {
@@ -135,7 +138,7 @@ fn push_value(text: &mut Vec<u8>, format: &Format, col: u32, value: i64) -> Resu
     requires small { unsigned_abs value ≤ unsigned_abs MOST_UNITS }
     ensures ok { (width : ℕ) → OnOk result
         (text.new.items ≡ text.old.items ++ text_of_column format.now.separator width col (text_of_value value format.now.decimals)) }
-    ensures kept { BeginsAs text.old.items text.new.items }
+    ensures front { StartsWith text.new.items text.old.items }
 {
     if col == 1 {
         return push_text_of(text, i128::from(value), format.decimals);
@@ -154,7 +157,7 @@ fn push_unchanged(
 ) -> Result<(), AllocError>
     requires { 1 ≤ col }
     ensures ok { OnOk result (text.new.items ≡ text.old.items ++ text_of_column sep width col field.now) }
-    ensures kept { BeginsAs text.old.items text.new.items }
+    ensures front { StartsWith text.new.items text.old.items }
 {
     if col == 1 {
         push_first_field(text, field, width, sep)

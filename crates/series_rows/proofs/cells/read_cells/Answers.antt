@@ -17,7 +17,7 @@ field_in-requires-clause-most c = (all_here (IsWithin _) c.args.columns.now c.lo
 pub loop-col-preserved : goal.loop-col-preserved
 loop-col-preserved c =
     one_more c.args.format.now c.args.fields.now c.args.columns.now c.loop-col.col-index _ (seen_cells c.loop-col.cells) _ c.in-Ok.reading (omega arith) refl c.loop-col.invariant
-    (subst (λ s. ReadsCell c.args.format.now s (Ok c.in-Ok.reading)) c.field_in.ensures c.in-Ok.ensures) c.in_ok-push.ensures
+    (subst (λ s. ReadsCell c.args.format.now s (Ok c.in-Ok.reading)) c.field_in.ensures c.in-Ok.ensures) c.in_ok-push-in-Ok.ensures
 
 pub returns-in-Err-clause-refused : goal.returns-in-Err-clause-refused
 returns-in-Err-clause-refused c = λ _.

@@ -9,10 +9,10 @@ unwrap-sensor-requires c = some_sensor seen_sensor c.sensor.result (sensors c.ar
 
 pub returns-in_err-col-clause-refused : goal.returns-in_err-col-clause-refused
 returns-in_err-col-clause-refused c =
-    let p = err_from_is_err_and c.from_residual.result c.from_residual.ensures.1 in
+    let p = err_from_is_err_and c.from_residual-in_err-col.result c.from_residual-in_err-col.ensures.1 in
     let here = sensor_at seen_sensor c.sensor.result c.unwrap-sensor.result (sensors c.args.rules.now) c.loop-i.i c.sensor.ensures c.unwrap-sensor.ensures in
     rw (p.1, p.2)
-    (λ other. c.loop-i.invariant ∙ led_fault c.args.time_col c.args.fields.now (sensors c.args.rules.now) c.loop-i.i c.loop-i.cols (seen_sensor c.unwrap-sensor.result) c.in_err-col.field-0 here (sym c.in_err-col.ensures))
+    (λ other. c.loop-i.invariant ∙ led_fault c.args.time_col c.args.fields.now (sensors c.args.rules.now) c.loop-i.i c.loop-i.cols (seen_sensor c.unwrap-sensor.result) _ here (sym c.in_err-col.ensures))
 
 pub loop-i-preserved : goal.loop-i-preserved
 loop-i-preserved c =

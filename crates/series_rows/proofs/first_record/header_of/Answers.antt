@@ -9,13 +9,13 @@ returns-then-width-gt-MOST_COLUMNS c = λ _. too_many_fields c.args.rules.now c.
 pub returns-in_err-time_col : goal.returns-in_err-time_col
 returns-in_err-time_col c =
     let p = err_from_is_err_and c.from_residual.result c.from_residual.ensures.1 in
-    rw (p.1, p.2) (λ _. time_fails c.args.rules.now c.args.fields c.in_err-time_col.field-0 (omega (arith, c.width.ensures)) (sym c.in_err-time_col.ensures))
+    rw (p.1, p.2) (λ _. time_fails c.args.rules.now c.args.fields _ (omega (arith, c.width.ensures)) (sym c.in_err-time_col.ensures))
 
 pub returns-in_err-sensor_cols : goal.returns-in_err-sensor_cols
 returns-in_err-sensor_cols c =
-    let p = err_from_is_err_and c.from_residual.result c.from_residual.ensures.1 in
+    let p = err_from_is_err_and c.from_residual-in_err-sensor_cols.result c.from_residual-in_err-sensor_cols.ensures.1 in
     rw (p.1, p.2)
-    (λ other. sensor_fails c.args.rules.now c.args.fields c.in_err-sensor_cols.field-0 c.in_ok-time_col.time_col (omega (arith, c.width.ensures)) (sym c.in_ok-time_col.ensures) (c.in_err-sensor_cols.ensures.refused (λ same. other (ap Err same))))
+    (λ other. sensor_fails c.args.rules.now c.args.fields _ c.in_ok-time_col.time_col (omega (arith, c.width.ensures)) (sym c.in_ok-time_col.ensures) (c.in_err-sensor_cols.ensures.refused (λ same. other (ap Err same))))
 
 pub new-requires : goal.new-requires
 new-requires c =
