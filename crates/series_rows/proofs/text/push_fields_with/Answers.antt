@@ -1,7 +1,8 @@
 use Rattle.std.proofs.Common.{length, ap, subst, arith}
+use Rattle.record_cut.proofs.Fronts.{front_stays}
 use Rattle.series_rows.specs.Row.{columns, Rise}
-use Rattle.series_rows.proofs.Kept.{front_begun, front_stays}
-use Rattle.series_rows.proofs.RowTexts.{begun, one_written, row_ended}
+use Rattle.series_rows.proofs.Kept.{front_begun}
+use Rattle.series_rows.proofs.RowTexts.{begun, one_written}
 use Rattle.series_rows.proofs.text.push_fields_with.Goals as goal
 
 pub loop-i-init : goal.loop-i-init
@@ -14,7 +15,10 @@ loop-i-init c = record {
 
 pub loop-i-preserved : goal.loop-i-preserved
 loop-i-preserved c = record {
-  written = one_written c.args.rules.now.format c.args.row.now c.args.values.now c.loop-i.i c.loop-i.next _ c.loop-i.text.items _ _ c.loop-i.invariant.written ?;
-  within = ?;
-  front = front_stays c.loop-i.text.items _ c.args.text.now.items ? c.loop-i.invariant.front;
+  written = one_written c.args.rules.now.format c.args.row.now c.args.values.now c.loop-i.i c.loop-i.next c.in_ok-next.next c.loop-i.text.items c.push_column.new.text.items _ c.loop-i.invariant.written c.in_ok-next.ensures.rest;
+  within = c.in_ok-next.ensures.within;
+  front = front_stays c.loop-i.text.items c.push_column.new.text.items c.args.text.now.items c.push_column.ensures.front c.loop-i.invariant.front;
 }
+
+pub returns-clause-front : goal.returns-clause-front
+returns-clause-front c = front_stays c.loop-i.text.items c.end_row.new.text.items c.args.text.now.items c.end_row.ensures.front c.loop-i.invariant.front
