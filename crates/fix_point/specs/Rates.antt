@@ -1,5 +1,6 @@
 -- To be believed: whole steps at a rate.
 use Rattle.std.specs.Prelude.{ℕ, ◌*◌, ◌^◌, ◌≤◌, ℤ, pos, neg_ℤ, ◌*ℤ◌, ◌≤ℤ◌, unsigned_abs}
+use Rattle.std.specs.Int.{int_div_euclid}
 use Rattle.fix_point.specs.declared.rate.Rate.{Rate}
 use Rattle.fix_point.specs.declared.rate.TheConstants.{MOST_MILLIONTHS, MOST_PER, MOST_SPAN, MOST_REACH}
 
@@ -43,3 +44,11 @@ pub record IsCeil (rate : Rate) (d : ℕ) (dt : ℤ) (step : ℤ) : Type 0 where
 -- the rate of the opposite change
 abbrev pub opposite : Rate → Rate
 opposite rate = record { millionths = neg_ℤ rate.millionths; per = rate.per }
+
+-- The greatest whole step that is at most the rate: its change in the ticks, rounded down.
+abbrev pub floor_step : Rate → ℕ → ℤ → ℤ
+floor_step rate d dt = int_div_euclid ((rate.millionths *ℤ pos (10 ^ d)) *ℤ dt) (pos (rate.per * 10 ^ 15))
+
+-- The least whole step that is at least the rate: the greatest one of the opposite rate, turned.
+abbrev pub ceil_step : Rate → ℕ → ℤ → ℤ
+ceil_step rate d dt = neg_ℤ (floor_step (opposite rate) d dt)

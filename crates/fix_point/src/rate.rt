@@ -2,7 +2,7 @@
 ghost use Rattle.std.specs.Prelude.{◌≡◌, ◌↔◌, ℕ, ◌*◌, ◌^◌, ◌≤◌, ℤ, pos, neg_ℤ, ◌+ℤ◌, ◌*ℤ◌, ◌≤ℤ◌, unsigned_abs};
 ghost use Rattle.fix_point.specs.declared.rate.Rate.{Rate};
 ghost use Rattle.fix_point.specs.declared.rate.TheConstants.{MOST_MILLIONTHS, MOST_SPAN};
-ghost use Rattle.fix_point.specs.Rates.{IsFloor, IsCeil, IsWithinReach, opposite};
+ghost use Rattle.fix_point.specs.Rates.{IsFloor, IsCeil, IsWithinReach, ceil_step, floor_step, opposite};
 
 /// A rate of change: millionths of a whole in each `per` seconds.
 #[derive(Clone, Copy, Debug, PartialEq, Eq)]
@@ -70,6 +70,12 @@ pub fn reach_of_fewer_ticks()
 pub fn one_step()
     ensures floor { (rate : Rate) (d : ℕ) (dt one other : ℤ) → IsFloor rate d dt one → IsFloor rate d dt other → one ≡ other }
     ensures ceil { (rate : Rate) (d : ℕ) (dt one other : ℤ) → IsCeil rate d dt one → IsCeil rate d dt other → one ≡ other }
+{}
+
+/// Each rate has a greatest and a least whole step: the change in the ticks rounded down, and rounded up.
+pub fn whole_steps()
+    ensures floor { (rate : Rate) (d : ℕ) (dt : ℤ) → 1 ≤ rate.per → IsFloor rate d dt (floor_step rate d dt) }
+    ensures ceil { (rate : Rate) (d : ℕ) (dt : ℤ) → 1 ≤ rate.per → IsCeil rate d dt (ceil_step rate d dt) }
 {}
 
 /// The least step of a rate is the greatest step of the opposite rate, turned.
