@@ -1,4 +1,5 @@
-use Rattle.std.proofs.Common.{◌≡◌, ◌++◌, subst, arith, to_z, of_z, w128}
+use Rattle.std.proofs.Common.{◌≡◌, ◌++◌, subst, arith, to_z, of_z}
+use mir.Syntax.{w128}
 use Rattle.std.specs.Prelude.{OnOk}
 use Rattle.std.proofs.lemmas.Int.{ints}
 use Rattle.fix_point.specs.Text.{text_of_value}
