@@ -163,7 +163,7 @@ named_within : (col : ℕ) (name : List ℕ) (fields : List (List ℕ)) → AllB
 named_within col name [] = tt
 named_within col name (field ∷ fields) =
     let rest = all_weaker (λ c. (suc col ≤ c) × (c < suc col + length fields)) (λ c. (col ≤ c) × (c < col + suc (length fields)))
-        (λ c h. (omega (arith, h.0), omega (arith, h.1))) (columns_named_from (suc col) name fields) (named_within (suc col) name fields) in
+    (λ c h. (omega (arith, h.0), omega (arith, h.1))) (columns_named_from (suc col) name fields) (named_within (suc col) name fields) in
     all_if (λ c. (col ≤ c) × (c < col + suc (length fields))) (bears name field) col (columns_named_from (suc col) name fields) (omega arith, omega arith) rest
 
 pub only_ok : (rule : ℕ) (cols : List ℕ) (col : ℕ) → the_only_column rule cols ≡ Ok col → cols ≡ col ∷ []

@@ -132,8 +132,7 @@ stays_last (x ∷ xs) c b = stays_last_if (is_blank x) x xs (without_leading_bla
 stays_first : (c : ℕ) (rest : List ℕ) → is_blank c ≡ false → (left : List ℕ) × (trimmed (c ∷ rest) ≡ c ∷ left)
 stays_first c rest b =
     let led : without_leading_blanks (c ∷ rest) ≡ c ∷ rest = ap (λ t. if t then without_leading_blanks rest else c ∷ rest) b in
-    let (left, e) = stays_last (reverse rest) c b in
-    (
+    let (left, e) = stays_last (reverse rest) c b in (
       reverse left,
       ap without_trailing_blanks led ∙ ap (λ s. reverse (without_leading_blanks s)) (reverse_cons c rest) ∙ ap reverse e ∙ reverse-append left (c ∷ []),
     )

@@ -110,8 +110,7 @@ module _ (law : NumbersAreReadBack) (format : Format) where
       let next = set fields (col - 1) text in
       let long : length next ≡ length fields = length-set fields (col - 1) text in
       let here : field_at (replaced format.decimals next others.readings values) col ≡ text =
-      replaced_elsewhere format.decimals next others.readings values col least (misses_above col (columns others.readings) (length fields) readings) ∙ set_here fields col text least most in
-      (
+      replaced_elsewhere format.decimals next others.readings values col least (misses_above col (columns others.readings) (length fields) readings) ∙ set_here fields col text least most in (
         Some value,
         with_values others values,
         subst (λ s. ReadsCell format s (Ok (Some value))) (sym here) (value_read law format value small.0),

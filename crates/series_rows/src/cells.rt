@@ -60,10 +60,7 @@ impl SensorCells {
 fn is_missing(field: &[u8]) -> bool
     ensures { result ≡ is_missing field.now }
 {
-    matches!(
-        trimmed_text(field),
-        b"" | b"NaN" | b"nan" | b"NA" | b"null"
-    )
+    matches!(trimmed_text(field), b"" | b"NaN" | b"nan" | b"NA" | b"null")
 }
 
 /// The reading that the field of a sensor holds, if it is not missing.

@@ -70,7 +70,13 @@ fn row_of(
     }
     let time_col = header.time_col();
     let ticks = row_ticks(alloc, rules, before, field_in(&fields, time_col), time_col)?;
-    let cells = read_cells(alloc, &rules.format, &fields, header.sensor_columns(), number)?;
+    let cells = read_cells(
+        alloc,
+        &rules.format,
+        &fields,
+        header.sensor_columns(),
+        number,
+    )?;
     if are_too_many(limits, before.readings(), cells.readings.len()) {
         return Err(TableFault::at(number, 0, TableCause::TooManyReadings));
     }

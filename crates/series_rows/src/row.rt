@@ -34,12 +34,7 @@ impl Row {
     ghost use Rattle.series_rows.specs.Kept.{row_view, seen_cells, KeepsRow};
 
     /// The row of these parts.
-    pub(crate) fn new(
-        fields: Fields,
-        ticks: i64,
-        time_col: u32,
-        cells: SensorCells,
-    ) -> Row
+    pub(crate) fn new(fields: Fields, ticks: i64, time_col: u32, cells: SensorCells) -> Row
         requires { KeepsRow (row_view fields ticks time_col (seen_cells cells)) }
         ensures { result ≡ row_view fields ticks time_col (seen_cells cells) }
     {
@@ -68,7 +63,11 @@ impl Row {
         if col == self.time_col {
             return Some(Cell::Time);
         }
-        Some(sensor_cell(self.cells.readings.as_slice(), self.cells.missing.as_slice(), col))
+        Some(sensor_cell(
+            self.cells.readings.as_slice(),
+            self.cells.missing.as_slice(),
+            col,
+        ))
     }
 
     /// The fields as they were read.

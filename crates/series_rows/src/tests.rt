@@ -51,86 +51,110 @@ fn rules_with(alloc: Global, format: &str) -> Result<Rules, Fail> {
     Ok(read_rules(alloc, text.as_bytes())?)
 }
 
-/// The row of a line, whatever stands before it, and its fault.
+/// The header of a line, or its fault.
+fn header_of(
+    alloc: Global,
+    rules: &Rules,
+    sep: u8,
+    line: &[u8],
+) -> Result<Result<Header, TableFault>, Fail>
+    requires { IsTrue (is_separator sep) }
+{
+    let fields = cut(alloc, sep, line)?;
+    Ok(read_header(alloc, rules, fields))
+}
+
+/// The row of a line of a table, or its fault.
 fn row_of(
     alloc: Global,
     rules: &Rules,
     header: &Header,
     before: RowsBefore,
+    sep: u8,
     line: &[u8],
-) -> Result<Result<Row, TableFault>, Fail> {
-    let fields = cut(alloc, b',', line)?;
+) -> Result<Result<Row, TableFault>, Fail>
+    requires { IsTrue (is_separator sep) }
+{
+    let fields = cut(alloc, sep, line)?;
     Ok(read_row(alloc, rules, header, Limits::Whole, before, fields))
 }
 
-/// The line of a header with its time column and its sensor columns from the left, or the fault's column.
-type HeaderCase = (
-    &'static [u8],
-    Option<(u32, &'static [u32])>,
-    Option<(TableCause, u32)>,
-);
+/// The line of a header, its time column, and its sensor columns from the left.
+type HeaderCase = (&'static [u8], u32, &'static [u32]);
 
-const FIRST_IS_TIME: [HeaderCase; 12] = [
-    (b"time,x,y", Some((1, &[2, 3])), None),
-    (b"time, x ,\"\ty\"", Some((1, &[2, 3])), None),
-    (b",y,,x,", Some((1, &[2, 4])), None),
-    (b"x,\"a,x\",y,x,Y", Some((1, &[3, 4])), None),
-    (b"time,y", None, Some((TableCause::NoSuchSensor { rule: 1 }, 0))),
-    (b"time,x", None, Some((TableCause::NoSuchSensor { rule: 2 }, 0))),
-    (b"x", None, Some((TableCause::NoSuchSensor { rule: 1 }, 0))),
-    (b"time,y,y", None, Some((TableCause::NoSuchSensor { rule: 1 }, 0))),
-    (b"time,x,x", None, Some((TableCause::NameTwice, 3))),
-    (b"time,x,y,x,x", None, Some((TableCause::NameTwice, 4))),
-    (b"time,y,x,y", None, Some((TableCause::NameTwice, 4))),
-    (b"time,y,y,x,x", None, Some((TableCause::NameTwice, 5))),
+/// A line that is refused, with the cause and the column.
+type RefusedCase = (&'static [u8], TableCause, u32);
+
+const FIRST_IS_TIME: [HeaderCase; 4] = [
+    (b"time,x,y", 1, &[2, 3]),
+    (b"time, x ,\"\ty\"", 1, &[2, 3]),
+    (b",y,,x,", 1, &[2, 4]),
+    (b"x,\"a,x\",y,x,Y", 1, &[3, 4]),
 ];
 
-const TIME_IS_NAMED: [HeaderCase; 6] = [
-    (b"x,\" t\t\",y", Some((2, &[1, 3])), None),
-    (b"x,y,t", Some((3, &[1, 2])), None),
-    (b"x,y", None, Some((TableCause::NoSuchSensor { rule: 0 }, 0))),
-    (b"y,y", None, Some((TableCause::NoSuchSensor { rule: 0 }, 0))),
-    (b"t,x,t,t", None, Some((TableCause::NameTwice, 3))),
-    (b"t,y,x,y", None, Some((TableCause::NameTwice, 4))),
+const FIRST_IS_TIME_REFUSED: [RefusedCase; 8] = [
+    (b"time,y", TableCause::NoSuchSensor { rule: 1 }, 0),
+    (b"time,x", TableCause::NoSuchSensor { rule: 2 }, 0),
+    (b"x", TableCause::NoSuchSensor { rule: 1 }, 0),
+    (b"time,y,y", TableCause::NoSuchSensor { rule: 1 }, 0),
+    (b"time,x,x", TableCause::NameTwice, 3),
+    (b"time,x,y,x,x", TableCause::NameTwice, 4),
+    (b"time,y,x,y", TableCause::NameTwice, 4),
+    (b"time,y,y,x,x", TableCause::NameTwice, 5),
 ];
 
-const TIME_IS_A_SENSOR: [HeaderCase; 3] = [
-    (b"x,y", None, Some((TableCause::NoSuchSensor { rule: 1 }, 0))),
-    (b"y,x,x", None, Some((TableCause::NameTwice, 3))),
-    (b"y", None, Some((TableCause::NoSuchSensor { rule: 0 }, 0))),
+const TIME_IS_NAMED: [HeaderCase; 2] = [(b"x,\" t\t\",y", 2, &[1, 3]), (b"x,y,t", 3, &[1, 2])];
+
+const TIME_IS_NAMED_REFUSED: [RefusedCase; 4] = [
+    (b"x,y", TableCause::NoSuchSensor { rule: 0 }, 0),
+    (b"y,y", TableCause::NoSuchSensor { rule: 0 }, 0),
+    (b"t,x,t,t", TableCause::NameTwice, 3),
+    (b"t,y,x,y", TableCause::NameTwice, 4),
 ];
 
-/// Reads each header, and looks at all that it tells.
+const TIME_IS_A_SENSOR_REFUSED: [RefusedCase; 3] = [
+    (b"x,y", TableCause::NoSuchSensor { rule: 1 }, 0),
+    (b"y,x,x", TableCause::NameTwice, 3),
+    (b"y", TableCause::NoSuchSensor { rule: 0 }, 0),
+];
+
+/// The header tells these columns.
+fn check_header(rt: &impl Abort, header: &Header, time_col: u32, columns: &[u32]) {
+    assert_eq!(rt; header.time_col(), time_col);
+    assert_eq!(rt; header.sensor_columns(), columns);
+    assert_eq!(rt; header.sensor_col(0), header.col_of(b"x"));
+    assert_eq!(rt; header.sensor_col(1), header.col_of(b"x"));
+    assert_eq!(rt; header.sensor_col(2), header.col_of(b"y"));
+    assert_eq!(rt; header.sensor_col(3), None);
+    assert_eq!(rt; header.col_of(b" x"), None);
+    assert_eq!(rt; header.col_of(b"t"), None);
+}
+
+/// Each line is a header with these columns, and so is its copy.
 fn check_headers(
     rt: &impl Abort,
     alloc: Global,
-    format: &str,
+    rules: &Rules,
     cases: &[HeaderCase],
 ) -> Result<(), Fail> {
-    let rules = rules_with(alloc, format)?;
-    for case in cases {
-        let (line, header, fault) = *case;
-        let fields = cut(alloc, b',', line)?;
-        match (read_header(alloc, &rules, fields), header) {
-            (Ok(read), Some((time_col, columns))) => {
-                assert_eq!(rt; read.time_col(), time_col);
-                assert_eq!(rt; read.sensor_columns(), columns);
-                assert_eq!(rt; read.sensor_col(0), read.col_of(b"x"));
-                assert_eq!(rt; read.sensor_col(1), read.col_of(b"x"));
-                assert_eq!(rt; read.sensor_col(2), read.col_of(b"y"));
-                assert_eq!(rt; read.sensor_col(3), None);
-                assert_eq!(rt; read.col_of(b" x"), None);
-                assert_eq!(rt; read.col_of(b"t"), None);
-                let copy = read.copy(alloc)?;
-                assert_eq!(rt; copy.sensor_columns(), columns);
-                assert_eq!(rt; copy.fields().width(), read.width());
-            }
-            (Ok(_), None) => assert!(rt; fault.is_none(), "a header that should be refused"),
-            (Err(found), _) => {
-                let is = fault.map(|(cause, col)| TableFault::at(0, col, cause));
-                assert_eq!(rt; Some(found), is);
-            }
-        }
+    for (line, time_col, columns) in cases {
+        let header = header_of(alloc, rules, b',', line)??;
+        check_header(rt, &header, *time_col, columns);
+        check_header(rt, &header.copy(alloc)?, *time_col, columns);
+    }
+    Ok(())
+}
+
+/// Each line is no header, for this cause at this column.
+fn check_no_headers(
+    rt: &impl Abort,
+    alloc: Global,
+    rules: &Rules,
+    cases: &[RefusedCase],
+) -> Result<(), Fail> {
+    for (line, cause, col) in cases {
+        let fault = header_of(alloc, rules, b',', line)?.err();
+        assert_eq!(rt; fault, Some(TableFault::at(0, *col, *cause)));
     }
     Ok(())
 }
@@ -138,132 +162,224 @@ fn check_headers(
 #[test]
 fn headers_have_their_columns_or_their_first_fault(rt: HostRuntime) -> Result<(), Fail> {
     let alloc = rt.alloc();
-    check_headers(&rt, alloc, "", &FIRST_IS_TIME)?;
-    check_headers(&rt, alloc, "time = \"t\"\n", &TIME_IS_NAMED)?;
-    check_headers(&rt, alloc, "time = \"x\"\n", &TIME_IS_A_SENSOR)
+    let rules = rules_with(alloc, "")?;
+    check_headers(&rt, alloc, &rules, &FIRST_IS_TIME)?;
+    check_no_headers(&rt, alloc, &rules, &FIRST_IS_TIME_REFUSED)?;
+    let rules = rules_with(alloc, "time = \"t\"\n")?;
+    check_headers(&rt, alloc, &rules, &TIME_IS_NAMED)?;
+    check_no_headers(&rt, alloc, &rules, &TIME_IS_NAMED_REFUSED)?;
+    let rules = rules_with(alloc, "time = \"x\"\n")?;
+    check_no_headers(&rt, alloc, &rules, &TIME_IS_A_SENSOR_REFUSED)
+}
+
+/// The line of the time column, of so many other columns, and of the two sensors.
+fn wide_line(alloc: Global, others: u32) -> Result<Vec<u8>, Fail> {
+    let mut line = Vec::from_slice(alloc, b"time")?;
+    for _ in 0..others {
+        line.push(b',')?;
+    }
+    line.extend_from_slice(b",x,y")?;
+    Ok(line)
 }
 
 #[test]
 fn a_header_has_at_most_256_fields(rt: HostRuntime) -> Result<(), Fail> {
-    let rules = rules_with(rt.alloc(), "")?;
-    let mut line = Vec::from_slice(rt.alloc(), b"time")?;
-    for _ in 0..253 {
-        line.push(b',')?;
-    }
-    line.extend_from_slice(b",x,y")?;
-    let fields = cut(rt.alloc(), b',', line.as_slice())?;
-    let header = read_header(rt.alloc(), &rules, fields)?;
+    let alloc = rt.alloc();
+    let rules = rules_with(alloc, "")?;
+    let header = header_of(alloc, &rules, b',', wide_line(alloc, 253)?.as_slice())??;
     assert_eq!(rt; header.width(), 256);
     assert_eq!(rt; header.sensor_columns(), [255, 256].as_slice());
-    line.extend_from_slice(b",x")?;
-    let fields = cut(rt.alloc(), b',', line.as_slice())?;
-    let fault = read_header(rt.alloc(), &rules, fields).err();
-    assert_eq!(rt; fault, Some(TableFault::at(0, 0, TableCause::TooManyColumns)));
+    let fault = header_of(alloc, &rules, b',', wide_line(alloc, 254)?.as_slice())?.err();
+    assert_eq!(rt;
+        fault,
+        Some(TableFault::at(0, 0, TableCause::TooManyColumns))
+    );
     Ok(())
 }
 
-/// The line of a row with the cells in columns 2 and 3, or the fault's column.
-type RowCase = (
-    &'static [u8],
-    Option<(Cell, Cell)>,
-    Option<(TableCause, u32)>,
-);
+/// The line of a row with the cells in columns 2 and 3.
+type RowCase = (&'static [u8], Cell, Cell);
 
 /// After a row at 5 seconds.
-const ROWS: [RowCase; 26] = [
-    (b"5.000000001,1.5,-2,a", Some((Cell::Reading(15), Cell::Reading(-20))), None),
-    (b" 6\t, 1.5\t,0,\"a,\"\"\"", Some((Cell::Reading(15), Cell::Reading(0))), None),
-    (b"6,,NaN,", Some((Cell::Missing, Cell::Missing)), None),
-    (b"6, nan,NA\t,", Some((Cell::Missing, Cell::Missing)), None),
-    (b"6,\" null \",\" \",", Some((Cell::Missing, Cell::Missing)), None),
-    (b"6,1e14,-100000000000000,", Some((Cell::Reading(1_000_000_000_000_000), Cell::Reading(-1_000_000_000_000_000))), None),
-    (b"6,1,2", None, Some((TableCause::Width, 0))),
-    (b"a,b,c,,", None, Some((TableCause::Width, 0))),
-    (b",1,2,", None, Some((TableCause::Time(TimeFault::NotTime), 1))),
-    (b"NaN,a,b,", None, Some((TableCause::Time(TimeFault::NotTime), 1))),
-    (b"6.0000000001,a,,", None, Some((TableCause::Time(TimeFault::TimeTooFine), 1))),
-    (b"9000000001,a,,", None, Some((TableCause::Time(TimeFault::TimeOutOfRange), 1))),
-    (b"5,1,2,", None, Some((TableCause::TimeNotRising, 1))),
-    (b"4.999999999,a,b,", None, Some((TableCause::TimeNotRising, 1))),
-    (b"-6,1,2,", None, Some((TableCause::TimeNotRising, 1))),
-    (b"6,a,b,", None, Some((TableCause::Value(NumFault::NotNumber), 2))),
-    (b"6,NAN,1,", None, Some((TableCause::Value(NumFault::NotNumber), 2))),
-    (b"6,Null,1,", None, Some((TableCause::Value(NumFault::NotNumber), 2))),
-    (b"6,N A,1,", None, Some((TableCause::Value(NumFault::NotNumber), 2))),
-    (b"6,,0x1,", None, Some((TableCause::Value(NumFault::NotNumber), 3))),
-    (b"6,1.25,2,", None, Some((TableCause::Value(NumFault::TooFine), 2))),
-    (b"6,1,2.25,", None, Some((TableCause::Value(NumFault::TooFine), 3))),
-    (b"6,1.25,a,", None, Some((TableCause::Value(NumFault::TooFine), 2))),
-    (b"6,1e15,2,", None, Some((TableCause::Value(NumFault::OutOfRange), 2))),
-    (b"6,,-100000000000000.1,", None, Some((TableCause::Value(NumFault::OutOfRange), 3))),
-    (b"6,1,2,1.25,", None, Some((TableCause::Width, 0))),
+const ROWS: [RowCase; 6] = [
+    (
+        b"5.000000001,1.5,-2,a",
+        Cell::Reading(15),
+        Cell::Reading(-20),
+    ),
+    (
+        b" 6\t, 1.5\t,0,\"a,\"\"\"",
+        Cell::Reading(15),
+        Cell::Reading(0),
+    ),
+    (b"6,,NaN,", Cell::Missing, Cell::Missing),
+    (b"6, nan,NA\t,", Cell::Missing, Cell::Missing),
+    (b"6,\" null \",\" \",", Cell::Missing, Cell::Missing),
+    (
+        b"6,1e14,-100000000000000,",
+        Cell::Reading(1_000_000_000_000_000),
+        Cell::Reading(-1_000_000_000_000_000),
+    ),
 ];
+
+/// With halves rounded.
+const ROUNDED_ROWS: [RowCase; 2] = [
+    (b"6,1.25,-1.25,", Cell::Reading(13), Cell::Reading(-13)),
+    (b"6,1.2499,0.04,", Cell::Reading(12), Cell::Reading(0)),
+];
+
+const NO_ROWS: [RefusedCase; 20] = [
+    (b"6,1,2", TableCause::Width, 0),
+    (b"a,b,c,,", TableCause::Width, 0),
+    (b"6,1,2,1.25,", TableCause::Width, 0),
+    (b",1,2,", TableCause::Time(TimeFault::NotTime), 1),
+    (b"NaN,a,b,", TableCause::Time(TimeFault::NotTime), 1),
+    (
+        b"6.0000000001,a,,",
+        TableCause::Time(TimeFault::TimeTooFine),
+        1,
+    ),
+    (
+        b"9000000001,a,,",
+        TableCause::Time(TimeFault::TimeOutOfRange),
+        1,
+    ),
+    (b"5,1,2,", TableCause::TimeNotRising, 1),
+    (b"4.999999999,a,b,", TableCause::TimeNotRising, 1),
+    (b"-6,1,2,", TableCause::TimeNotRising, 1),
+    (b"6,a,b,", TableCause::Value(NumFault::NotNumber), 2),
+    (b"6,NAN,1,", TableCause::Value(NumFault::NotNumber), 2),
+    (b"6,Null,1,", TableCause::Value(NumFault::NotNumber), 2),
+    (b"6,N A,1,", TableCause::Value(NumFault::NotNumber), 2),
+    (b"6,,0x1,", TableCause::Value(NumFault::NotNumber), 3),
+    (b"6,1.25,2,", TableCause::Value(NumFault::TooFine), 2),
+    (b"6,1,2.25,", TableCause::Value(NumFault::TooFine), 3),
+    (b"6,1.25,a,", TableCause::Value(NumFault::TooFine), 2),
+    (b"6,1e15,2,", TableCause::Value(NumFault::OutOfRange), 2),
+    (
+        b"6,,-100000000000000.1,",
+        TableCause::Value(NumFault::OutOfRange),
+        3,
+    ),
+];
+
+/// The row has these cells in columns 2 and 3, the time in column 1, and text in column 4.
+fn check_row(rt: &impl Abort, row: &Row, x: Cell, y: Cell) {
+    assert_eq!(rt; row.cell(0), None);
+    assert_eq!(rt; row.cell(1), Some(Cell::Time));
+    assert_eq!(rt; row.cell(2), Some(x));
+    assert_eq!(rt; row.cell(3), Some(y));
+    assert_eq!(rt; row.cell(4), Some(Cell::Text));
+    assert_eq!(rt; row.cell(5), None);
+    assert_eq!(rt; row.fields().width(), 4);
+}
+
+/// Seven rows with three readings, the last of them at 5 seconds.
+fn seven_rows() -> RowsBefore {
+    RowsBefore::new(7, Some(5_000_000_000), 3)
+}
+
+/// Each line is a row with these cells.
+fn check_rows(
+    rt: &impl Abort,
+    alloc: Global,
+    rules: &Rules,
+    header: &Header,
+    cases: &[RowCase],
+) -> Result<(), Fail> {
+    for (line, x, y) in cases {
+        let row = row_of(alloc, rules, header, seven_rows(), b',', line)??;
+        check_row(rt, &row, *x, *y);
+    }
+    Ok(())
+}
+
+/// Each line is no row, for this cause at this column.
+fn check_no_rows(
+    rt: &impl Abort,
+    alloc: Global,
+    rules: &Rules,
+    header: &Header,
+    cases: &[RefusedCase],
+) -> Result<(), Fail> {
+    for (line, cause, col) in cases {
+        let fault = row_of(alloc, rules, header, seven_rows(), b',', line)?.err();
+        assert_eq!(rt; fault, Some(TableFault::at(8, *col, *cause)));
+    }
+    Ok(())
+}
 
 #[test]
 fn rows_have_their_cells_or_their_first_fault(rt: HostRuntime) -> Result<(), Fail> {
-    let rules = rules_with(rt.alloc(), "")?;
-    let fields = cut(rt.alloc(), b',', b"time,x,y,note")?;
-    let header = read_header(rt.alloc(), &rules, fields)?;
-    let before = RowsBefore::new(7, Some(5_000_000_000), 3);
-    for (line, cells, fault) in ROWS {
-        match (row_of(rt.alloc(), &rules, &header, before, line)?, cells) {
-            (Ok(row), Some((x, y))) => {
-                assert_eq!(rt; row.cell(0), None);
-                assert_eq!(rt; row.cell(1), Some(Cell::Time));
-                assert_eq!(rt; row.cell(2), Some(x));
-                assert_eq!(rt; row.cell(3), Some(y));
-                assert_eq!(rt; row.cell(4), Some(Cell::Text));
-                assert_eq!(rt; row.cell(5), None);
-                assert_eq!(rt; row.fields().width(), 4);
-                let next = before.after(&row);
-                assert_eq!(rt; next.rows(), 8);
-                assert_eq!(rt; next.ticks(), Some(row.ticks()));
-            }
-            (Ok(_), None) => assert!(rt; fault.is_none(), "a row that should be refused"),
-            (Err(found), _) => {
-                let is = fault.map(|(cause, col)| TableFault::at(8, col, cause));
-                assert_eq!(rt; Some(found), is);
-            }
-        }
-    }
-    Ok(())
+    let alloc = rt.alloc();
+    let rules = rules_with(alloc, "")?;
+    let header = header_of(alloc, &rules, b',', b"time,x,y,note")??;
+    check_rows(&rt, alloc, &rules, &header, &ROWS)?;
+    check_no_rows(&rt, alloc, &rules, &header, &NO_ROWS)?;
+    let rules = rules_with(alloc, "extra = \"round\"\n")?;
+    check_rows(&rt, alloc, &rules, &header, &ROUNDED_ROWS)
 }
 
-/// The fault of the line as a row of a table and as one of a stream.
-fn faults(
+/// The line has this cause to be refused as a row of a table, and this one as a row of a stream.
+fn check_limits(
+    rt: &impl Abort,
     alloc: Global,
     before: RowsBefore,
     line: &[u8],
-) -> Result<(Option<TableFault>, Option<TableFault>), Fail> {
+    whole: Option<TableCause>,
+    endless: Option<TableCause>,
+) -> Result<(), Fail> {
     let rules = rules_with(alloc, "")?;
-    let header = read_header(alloc, &rules, cut(alloc, b',', b"time,x,y")?)?;
+    let header = header_of(alloc, &rules, b',', b"time,x,y")??;
     let fields = cut(alloc, b',', line)?;
-    let whole = read_row(alloc, &rules, &header, Limits::Whole, before, fields).err();
-    let fields = cut(alloc, b',', line)?;
-    let endless = read_row(alloc, &rules, &header, Limits::Endless, before, fields).err();
-    Ok((whole, endless))
+    let read = read_row(alloc, &rules, &header, Limits::Endless, before, fields);
+    assert!(rt; read.err().map(|fault| fault.cause) == endless);
+    let read = row_of(alloc, &rules, &header, before, b',', line)?;
+    assert!(rt; read.err().map(|fault| fault.cause) == whole);
+    Ok(())
 }
 
 #[test]
 fn limits_are_met_at_their_ends(rt: HostRuntime) -> Result<(), Fail> {
-    let rows = |row| Some(TableFault::at(row, 0, TableCause::TooManyRows));
-    let readings = |row| Some(TableFault::at(row, 0, TableCause::TooManyReadings));
-    let value = Some(TableFault::at(200_000, 3, TableCause::Value(NumFault::NotNumber)));
+    let alloc = rt.alloc();
+    let readings = Some(TableCause::TooManyReadings);
+    let value = Some(TableCause::Value(NumFault::NotNumber));
     let before = RowsBefore::new(199_999, None, 399_998);
-    assert_eq!(rt; faults(rt.alloc(), before, b"0,1,2")?, (None, None));
+    check_limits(&rt, alloc, before, b"0,1,2", None, None)?;
     let before = RowsBefore::new(199_999, None, 399_999);
-    assert_eq!(rt; faults(rt.alloc(), before, b"0,1,2")?, (readings(200_000), None));
-    assert_eq!(rt; faults(rt.alloc(), before, b"0,1,a")?, (value, value));
-    assert_eq!(rt; faults(rt.alloc(), before, b"0,1,")?, (None, None));
+    check_limits(&rt, alloc, before, b"0,1,2", readings, None)?;
+    check_limits(&rt, alloc, before, b"0,1,a", value, value)?;
+    check_limits(&rt, alloc, before, b"0,1,", None, None)
+}
+
+#[test]
+fn rows_are_counted_to_their_most(rt: HostRuntime) -> Result<(), Fail> {
+    let alloc = rt.alloc();
+    let rows = Some(TableCause::TooManyRows);
     let before = RowsBefore::new(200_000, None, 0);
-    assert_eq!(rt; faults(rt.alloc(), before, b"0,1,2")?, (rows(200_001), None));
-    let width = Some(TableFault::at(200_001, 0, TableCause::Width));
-    assert_eq!(rt; faults(rt.alloc(), before, b"0")?, (rows(200_001), width));
+    check_limits(&rt, alloc, before, b"0,1,2", rows, None)?;
+    check_limits(&rt, alloc, before, b"0", rows, Some(TableCause::Width))?;
     let before = RowsBefore::new(3_999_999_999, None, 1_000_000_000_000);
-    assert_eq!(rt; faults(rt.alloc(), before, b"0,1,2")?.1, None);
+    check_limits(&rt, alloc, before, b"0,1,2", rows, None)?;
     let before = RowsBefore::new(4_000_000_000, None, 0);
-    let beyond = rows(4_000_000_001);
-    assert_eq!(rt; faults(rt.alloc(), before, b"a")?, (beyond, beyond));
+    check_limits(&rt, alloc, before, b"a", rows, rows)
+}
+
+#[test]
+fn rows_are_told_with_what_stands_before(rt: HostRuntime) -> Result<(), Fail> {
+    let alloc = rt.alloc();
+    let rules = rules_with(alloc, "")?;
+    let header = header_of(alloc, &rules, b',', b"time,x,y")??;
+    let row = row_of(alloc, &rules, &header, RowsBefore::none(), b',', b"-2,1,")??;
+    let before = seven_rows().after(&row);
+    assert_eq!(rt; before.rows(), 8);
+    assert_eq!(rt; before.ticks(), Some(-2_000_000_000));
+    assert_eq!(rt; before.readings(), 4);
+    let fault = row_of(alloc, &rules, &header, before, b',', b"-2,1,")?.err();
+    assert_eq!(rt;
+        fault,
+        Some(TableFault::at(9, 1, TableCause::TimeNotRising))
+    );
     Ok(())
 }
 
@@ -279,6 +395,15 @@ fn written(alloc: Global, rules: &Rules, row: &Row, value: i64) -> Result<Vec<u8
     Ok(row_with(alloc, rules, row, &series)?)
 }
 
+/// The line is a row with these ticks, in which each of so many readings is this value.
+fn check_values(rt: &impl Abort, row: &Row, ticks: i64, count: usize, value: i64) {
+    assert_eq!(rt; row.ticks(), ticks);
+    assert_eq!(rt; row.readings().len(), count);
+    for reading in row.readings() {
+        assert_eq!(rt; reading.value, value);
+    }
+}
+
 /// Writes the header of the first line and the row of the second, in which each reading is replaced by this value, and
 /// reads the third line, which that should be.
 fn check_text(
@@ -292,74 +417,87 @@ fn check_text(
     requires separator { IsTrue (is_separator sep) }
     requires small { unsigned_abs value ≤ unsigned_abs MOST_UNITS }
 {
-    let header = read_header(alloc, rules, cut(alloc, sep, lines[0])?)?;
-    let text = header_text(alloc, rules, &header)?;
-    assert_eq!(rt; text.as_slice(), lines[0]);
-    let before = RowsBefore::none();
-    let fields = cut(alloc, sep, lines[1])?;
-    let row = read_row(alloc, rules, &header, Limits::Whole, before, fields)?;
+    let header = header_of(alloc, rules, sep, lines[0])??;
+    assert!(rt; header_text(alloc, rules, &header)?.as_slice() == lines[0]);
+    let row = row_of(alloc, rules, &header, RowsBefore::none(), sep, lines[1])??;
     let text = written(alloc, rules, &row, value)?;
-    assert_eq!(rt; text.as_slice(), lines[2]);
-    let fields = cut(alloc, sep, text.as_slice())?;
-    let again = read_row(alloc, rules, &header, Limits::Whole, before, fields)?;
-    assert_eq!(rt; again.ticks(), row.ticks());
-    assert_eq!(rt; again.readings().len(), row.readings().len());
-    for reading in again.readings() {
-        assert_eq!(rt; reading.value, value);
-    }
+    assert!(rt; text.as_slice() == lines[2]);
+    let again = row_of(alloc, rules, &header, RowsBefore::none(), sep, lines[2])??;
+    check_values(rt, &again, row.ticks(), row.readings().len(), value);
     Ok(())
 }
 
 #[test]
 fn rows_are_written_with_other_values(rt: HostRuntime) -> Result<(), Fail> {
-    let rules = rules_with(rt.alloc(), "")?;
+    let alloc = rt.alloc();
+    let rules = rules_with(alloc, "")?;
     let lines: [&[u8]; 3] = [
         b"time,x,y,\"a;\"\"b\"\"\"\n",
         b"\"5\", 1.50 ,NA,\"a,b\"\r\n",
         b"5,-0.1,NA,\"a,b\"\n",
     ];
-    check_text(&rt, rt.alloc(), b',', &rules, lines, -1)?;
-    let format = "separator = \";\"\ntime = \"t\"\nextra = \"round\"\n";
-    let rules = rules_with(rt.alloc(), format)?;
+    check_text(&rt, alloc, b',', &rules, lines, -1)?;
+    let rules = rules_with(alloc, "separator = \"\\t\"\n")?;
+    let lines: [&[u8]; 3] = [b"time\tx\ty\n", b"5\t1e2\t\"\t\"", b"5\t0.0\t\"\t\"\n"];
+    check_text(&rt, alloc, b'\t', &rules, lines, 0)?;
+    let rules = rules_with(alloc, "separator = \"|\"\n")?;
+    let lines: [&[u8]; 3] = [b"|y,|x|y\n", b"5|,|null|7", b"5|,|null|123.4\n"];
+    check_text(&rt, alloc, b'|', &rules, lines, 1_234)
+}
+
+#[test]
+fn a_row_may_begin_with_a_reading(rt: HostRuntime) -> Result<(), Fail> {
+    let alloc = rt.alloc();
+    let rules = rules_with(
+        alloc,
+        "separator = \";\"\ntime = \"t\"\nextra = \"round\"\n",
+    )?;
     let lines: [&[u8]; 3] = [
         b"x; t;y;\"\"\"\"\n",
         b"1.25; 5 ;-1.25;",
         b"100000000000000.0; 5 ;100000000000000.0;\n",
     ];
-    check_text(&rt, rt.alloc(), b';', &rules, lines, 1_000_000_000_000_000)?;
-    let fields = cut(rt.alloc(), b';', lines[0])?;
-    let header = read_header(rt.alloc(), &rules, fields)?;
-    let fields = cut(rt.alloc(), b';', b"1.25; 5 ;-1.25;")?;
-    let row = read_row(rt.alloc(), &rules, &header, Limits::Whole, RowsBefore::none(), fields)?;
-    assert_eq!(rt; row.cell(1), Some(Cell::Reading(13)));
-    assert_eq!(rt; row.cell(3), Some(Cell::Reading(-13)));
-    let rules = rules_with(rt.alloc(), "separator = \"\\t\"\n")?;
-    let lines: [&[u8]; 3] = [b"time\tx\ty\n", b"5\t1e2\t\"\t\"", b"5\t0.0\t\"\t\"\n"];
-    check_text(&rt, rt.alloc(), b'\t', &rules, lines, 0)?;
-    let rules = rules_with(rt.alloc(), "separator = \"|\"\n")?;
-    let lines: [&[u8]; 3] = [b"|y,|x|y\n", b"5|,|null|7", b"5|,|null|123.4\n"];
-    check_text(&rt, rt.alloc(), b'|', &rules, lines, 1_234)
+    check_text(&rt, alloc, b';', &rules, lines, 1_000_000_000_000_000)
 }
 
-/// Rules of so many sensors, and the line of their header and of a row in which each other one has a reading.
-#[test]
-fn a_row_may_have_many_readings(rt: HostRuntime) -> Result<(), Fail> {
-    let alloc = rt.alloc();
+/// Rules of 255 sensors without decimals.
+fn wide_rules(alloc: Global) -> Result<Rules, Fail> {
     let mut text = String::from_str(alloc, "[format]\ndecimals = 0\n")?;
-    let mut names = Vec::from_slice(alloc, b"time")?;
-    let mut line = Vec::from_slice(alloc, b"0")?;
-    let mut changed = Vec::from_slice(alloc, b"0")?;
     for place in 0..255u32 {
         let range = format!(in alloc; "[[range]]\nsensor = \"s{place}\"\nmin = 0\nmax = 9\n")?;
         text.push_str(range.as_str())?;
-        let name = format!(in alloc; ",s{place}")?;
-        names.extend_from_slice(name.as_bytes())?;
-        line.extend_from_slice(if place % 2 == 0 { b",7" } else { b",  " })?;
-        changed.extend_from_slice(if place % 2 == 0 { b",8" } else { b",  " })?;
     }
-    names.push(b'\n')?;
-    changed.push(b'\n')?;
-    let rules = read_rules(alloc, text.as_bytes())?;
+    Ok(read_rules(alloc, text.as_bytes())?)
+}
+
+/// A line of a time and 255 fields, of which each other one is this.
+fn wide_row(alloc: Global, field: &[u8]) -> Result<Vec<u8>, Fail> {
+    let mut line = Vec::from_slice(alloc, b"0")?;
+    for place in 0..255u32 {
+        line.extend_from_slice(if place % 2 == 0 { field } else { b",  " })?;
+    }
+    line.push(b'\n')?;
+    Ok(line)
+}
+
+/// The line of their header.
+fn wide_header(alloc: Global) -> Result<Vec<u8>, Fail> {
+    let mut line = Vec::from_slice(alloc, b"time")?;
+    for place in 0..255u32 {
+        let name = format!(in alloc; ",s{place}")?;
+        line.extend_from_slice(name.as_bytes())?;
+    }
+    line.push(b'\n')?;
+    Ok(line)
+}
+
+#[test]
+fn a_row_may_have_many_readings(rt: HostRuntime) -> Result<(), Fail> {
+    let alloc = rt.alloc();
+    let rules = wide_rules(alloc)?;
+    let names = wide_header(alloc)?;
+    let line = wide_row(alloc, b",7")?;
+    let changed = wide_row(alloc, b",8")?;
     let lines = [names.as_slice(), line.as_slice(), changed.as_slice()];
-    check_text(&rt, rt.alloc(), b',', &rules, lines, 8)
+    check_text(&rt, alloc, b',', &rules, lines, 8)
 }

@@ -117,7 +117,13 @@ fn push_column(
         push_value(text, format, col, values[next])?;
         return Ok(next + 1);
     }
-    push_unchanged(text, field_in(fields, col), col, fields.width(), format.separator)?;
+    push_unchanged(
+        text,
+        field_in(fields, col),
+        col,
+        fields.width(),
+        format.separator,
+    )?;
     Ok(next)
 }
 
