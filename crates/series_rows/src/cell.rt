@@ -5,7 +5,7 @@
 pub enum Cell {
     /// A sensor's field that holds no reading.
     Missing,
-    /// A sensor's reading, in units, at most 10^15 in size.
+    /// A sensor's reading, in units.
     Reading(i64),
     /// The field of the time column.
     Time,
@@ -18,6 +18,6 @@ pub enum Cell {
 pub struct RowReading {
     /// The column, counted from 1.
     pub col: u32,
-    /// The reading, in units, at most 10^15 in size.
+    /// The reading, in units.
     pub value: i64,
 }

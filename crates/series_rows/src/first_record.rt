@@ -18,8 +18,7 @@ use std::alloc::{AllocError, Global};
 
 /// The header that the fields of the first record are, or the first reason why they are none.
 ///
-/// Names are compared as bytes; blanks at the ends of the fields are ignored. It takes no memory but that of the header,
-/// and time in proportion to the sensors of the rules times the fields.
+/// Names are compared as bytes; blanks at the ends of the fields are ignored.
 ///
 /// # Errors
 ///
@@ -32,7 +31,7 @@ pub fn read_header(alloc: Global, rules: &Rules, fields: Fields) -> Result<Heade
     ensures only { (answer : Result HeaderView TableFault) → ReadsHeader rules.now fields answer →
         UnlessMemory of_memory (λ given. given ≡ answer) result }
 {
-    // The law behind `only`; it does nothing.
+    // The law of `only`; it does nothing.
     one_header();
     header_of(alloc, rules, fields)
 }

@@ -82,8 +82,9 @@ impl Header {
         self.time_col
     }
 
-    /// The sensor column with this name, counted from 1; blanks at both ends of the header's field are ignored. `None`
-    /// exactly where there is none, as for the name of the time column and of a column that no rule names.
+    /// The first sensor column from the left that bears this name, counted from 1. Blanks at the ends of the header's
+    /// field are ignored; the name is taken as it is. `None` exactly where no sensor column bears it, as for the name of
+    /// a column that no rule names.
     pub fn col_of(&self, name: &[u8]) -> Option<u32>
         ensures { result ≡ column_of self.now name.now }
     {

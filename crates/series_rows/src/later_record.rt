@@ -24,7 +24,7 @@ use time_text::{TimeFault, ticks};
 
 /// The row that the fields of a record after the header are, or the first reason why they are none.
 ///
-/// A row keeps up to four readings, and as many columns without one, in itself; more of either take one allocation.
+/// A row has room in itself for four readings, and for as many columns without one; more of either need an allocation.
 ///
 /// # Errors
 ///
@@ -45,7 +45,7 @@ pub fn read_row(
     ensures only { (answer : Result RowView TableFault) → ReadsRow rules.now header.now limits before fields answer →
         UnlessMemory of_memory (λ given. given ≡ answer) result }
 {
-    // The law behind `only`; it does nothing.
+    // The law of `only`; it does nothing.
     one_row();
     row_of(alloc, rules, header, limits, before, fields)
 }

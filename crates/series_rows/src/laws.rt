@@ -50,8 +50,8 @@ pub fn a_row(rules: &Rules, header: &Header, limits: Limits, before: RowsBefore,
     cells_have_an_answer(&rules.format, fields, header.sensor_columns());
 }
 
-/// The text of a row with other values is cut into one record, and that is read as the row with these values. The contract
-/// is this law; the call does nothing.
+/// The text of a row with other values is cut into one record, where it is no longer than a record may be, and what it
+/// was written from is read as the row with these values. The contract is this law; the call does nothing.
 pub fn rows_are_read_back()
     ensures { RowsAreReadBack }
 {

@@ -79,17 +79,17 @@ fn row_of(
     Ok(read_row(alloc, rules, header, Limits::Whole, before, fields))
 }
 
-/// The line of a header, its time column, and its sensor columns from the left.
-type HeaderCase = (&'static [u8], u32, &'static [u32]);
+/// The line of a header, its time column, its sensor columns from the left, and the columns of `x` and `y`.
+type HeaderCase = (&'static [u8], u32, &'static [u32], u32, u32);
 
 /// A line that is refused, with the cause and the column.
 type RefusedCase = (&'static [u8], TableCause, u32);
 
 const FIRST_IS_TIME: [HeaderCase; 4] = [
-    (b"time,x,y", 1, &[2, 3]),
-    (b"time, x ,\"\ty\"", 1, &[2, 3]),
-    (b",y,,x,", 1, &[2, 4]),
-    (b"x,\"a,x\",y,x,Y", 1, &[3, 4]),
+    (b"time,x,y", 1, &[2, 3], 2, 3),
+    (b"time, x ,\"\ty\"", 1, &[2, 3], 2, 3),
+    (b",y,,x,", 1, &[2, 4], 4, 2),
+    (b"x,\"a,x\",y,x,Y", 1, &[3, 4], 4, 3),
 ];
 
 const FIRST_IS_TIME_REFUSED: [RefusedCase; 8] = [
@@ -103,7 +103,10 @@ const FIRST_IS_TIME_REFUSED: [RefusedCase; 8] = [
     (b"time,y,y,x,x", TableCause::NameTwice, 5),
 ];
 
-const TIME_IS_NAMED: [HeaderCase; 2] = [(b"x,\" t\t\",y", 2, &[1, 3]), (b"x,y,t", 3, &[1, 2])];
+const TIME_IS_NAMED: [HeaderCase; 2] = [
+    (b"x,\" t\t\",y", 2, &[1, 3], 1, 3),
+    (b"x,y,t", 3, &[1, 2], 1, 2),
+];
 
 const TIME_IS_NAMED_REFUSED: [RefusedCase; 4] = [
     (b"x,y", TableCause::NoSuchSensor { rule: 0 }, 0),
@@ -118,16 +121,28 @@ const TIME_IS_A_SENSOR_REFUSED: [RefusedCase; 3] = [
     (b"y", TableCause::NoSuchSensor { rule: 0 }, 0),
 ];
 
-/// The header tells these columns.
-fn check_header(rt: &impl Abort, header: &Header, time_col: u32, columns: &[u32]) {
-    assert_eq!(rt; header.time_col(), time_col);
-    assert_eq!(rt; header.sensor_columns(), columns);
-    assert_eq!(rt; header.sensor_col(0), header.col_of(b"x"));
-    assert_eq!(rt; header.sensor_col(1), header.col_of(b"x"));
-    assert_eq!(rt; header.sensor_col(2), header.col_of(b"y"));
-    assert_eq!(rt; header.sensor_col(3), None);
-    assert_eq!(rt; header.col_of(b" x"), None);
-    assert_eq!(rt; header.col_of(b"t"), None);
+/// The header tells these columns of its sensors.
+fn check_sensors(rt: &impl Abort, header: &Header, x: u32, y: u32) {
+    assert!(rt; header.sensor_col(0) == Some(x));
+    assert!(rt; header.sensor_col(1) == Some(x));
+    assert!(rt; header.sensor_col(2) == Some(y));
+    assert!(rt; header.sensor_col(3).is_none());
+}
+
+/// It finds these columns by the names of its sensors, and none by others.
+fn check_names(rt: &impl Abort, header: &Header, x: u32, y: u32) {
+    assert!(rt; header.col_of(b"x") == Some(x));
+    assert!(rt; header.col_of(b"y") == Some(y));
+    assert!(rt; header.col_of(b" x").is_none());
+    assert!(rt; header.col_of(b"t").is_none());
+}
+
+/// The header tells all these columns.
+fn check_header(rt: &impl Abort, header: &Header, case: &HeaderCase) {
+    assert!(rt; header.time_col() == case.1);
+    assert!(rt; header.sensor_columns() == case.2);
+    check_sensors(rt, header, case.3, case.4);
+    check_names(rt, header, case.3, case.4);
 }
 
 /// Each line is a header with these columns, and so is its copy.
@@ -137,10 +152,10 @@ fn check_headers(
     rules: &Rules,
     cases: &[HeaderCase],
 ) -> Result<(), Fail> {
-    for (line, time_col, columns) in cases {
-        let header = header_of(alloc, rules, b',', line)??;
-        check_header(rt, &header, *time_col, columns);
-        check_header(rt, &header.copy(alloc)?, *time_col, columns);
+    for case in cases {
+        let header = header_of(alloc, rules, b',', case.0)??;
+        check_header(rt, &header, case);
+        check_header(rt, &header.copy(alloc)?, case);
     }
     Ok(())
 }
@@ -154,7 +169,7 @@ fn check_no_headers(
 ) -> Result<(), Fail> {
     for (line, cause, col) in cases {
         let fault = header_of(alloc, rules, b',', line)?.err();
-        assert_eq!(rt; fault, Some(TableFault::at(0, *col, *cause)));
+        assert!(rt; fault == Some(TableFault::at(0, *col, *cause)));
     }
     Ok(())
 }
@@ -187,13 +202,10 @@ fn a_header_has_at_most_256_fields(rt: HostRuntime) -> Result<(), Fail> {
     let alloc = rt.alloc();
     let rules = rules_with(alloc, "")?;
     let header = header_of(alloc, &rules, b',', wide_line(alloc, 253)?.as_slice())??;
-    assert_eq!(rt; header.width(), 256);
-    assert_eq!(rt; header.sensor_columns(), [255, 256].as_slice());
+    assert!(rt; header.width() == 256);
+    assert!(rt; header.sensor_columns() == [255, 256].as_slice());
     let fault = header_of(alloc, &rules, b',', wide_line(alloc, 254)?.as_slice())?.err();
-    assert_eq!(rt;
-        fault,
-        Some(TableFault::at(0, 0, TableCause::TooManyColumns))
-    );
+    assert!(rt; fault == Some(TableFault::at(0, 0, TableCause::TooManyColumns)));
     Ok(())
 }
 
@@ -265,13 +277,12 @@ const NO_ROWS: [RefusedCase; 20] = [
 
 /// The row has these cells in columns 2 and 3, the time in column 1, and text in column 4.
 fn check_row(rt: &impl Abort, row: &Row, x: Cell, y: Cell) {
-    assert_eq!(rt; row.cell(0), None);
-    assert_eq!(rt; row.cell(1), Some(Cell::Time));
-    assert_eq!(rt; row.cell(2), Some(x));
-    assert_eq!(rt; row.cell(3), Some(y));
-    assert_eq!(rt; row.cell(4), Some(Cell::Text));
-    assert_eq!(rt; row.cell(5), None);
-    assert_eq!(rt; row.fields().width(), 4);
+    assert!(rt; row.cell(0).is_none());
+    assert!(rt; row.cell(1) == Some(Cell::Time));
+    assert!(rt; row.cell(2) == Some(x));
+    assert!(rt; row.cell(3) == Some(y));
+    assert!(rt; row.cell(4) == Some(Cell::Text));
+    assert!(rt; row.cell(5).is_none());
 }
 
 /// Seven rows with three readings, the last of them at 5 seconds.
@@ -304,7 +315,7 @@ fn check_no_rows(
 ) -> Result<(), Fail> {
     for (line, cause, col) in cases {
         let fault = row_of(alloc, rules, header, seven_rows(), b',', line)?.err();
-        assert_eq!(rt; fault, Some(TableFault::at(8, *col, *cause)));
+        assert!(rt; fault == Some(TableFault::at(8, *col, *cause)));
     }
     Ok(())
 }
@@ -320,30 +331,30 @@ fn rows_have_their_cells_or_their_first_fault(rt: HostRuntime) -> Result<(), Fai
     check_rows(&rt, alloc, &rules, &header, &ROUNDED_ROWS)
 }
 
-/// The line has this cause to be refused as a row of a table, and this one as a row of a stream.
+/// The line has this fault as a row of a table, and this one as a row of a stream.
 fn check_limits(
     rt: &impl Abort,
     alloc: Global,
     before: RowsBefore,
     line: &[u8],
-    whole: Option<TableCause>,
-    endless: Option<TableCause>,
+    whole: Option<TableFault>,
+    endless: Option<TableFault>,
 ) -> Result<(), Fail> {
     let rules = rules_with(alloc, "")?;
     let header = header_of(alloc, &rules, b',', b"time,x,y")??;
     let fields = cut(alloc, b',', line)?;
     let read = read_row(alloc, &rules, &header, Limits::Endless, before, fields);
-    assert!(rt; read.err().map(|fault| fault.cause) == endless);
+    assert!(rt; read.err() == endless);
     let read = row_of(alloc, &rules, &header, before, b',', line)?;
-    assert!(rt; read.err().map(|fault| fault.cause) == whole);
+    assert!(rt; read.err() == whole);
     Ok(())
 }
 
 #[test]
 fn limits_are_met_at_their_ends(rt: HostRuntime) -> Result<(), Fail> {
     let alloc = rt.alloc();
-    let readings = Some(TableCause::TooManyReadings);
-    let value = Some(TableCause::Value(NumFault::NotNumber));
+    let readings = Some(TableFault::at(200_000, 0, TableCause::TooManyReadings));
+    let value = Some(TableFault::at(200_000, 3, TableCause::Value(NumFault::NotNumber)));
     let before = RowsBefore::new(199_999, None, 399_998);
     check_limits(&rt, alloc, before, b"0,1,2", None, None)?;
     let before = RowsBefore::new(199_999, None, 399_999);
@@ -355,13 +366,16 @@ fn limits_are_met_at_their_ends(rt: HostRuntime) -> Result<(), Fail> {
 #[test]
 fn rows_are_counted_to_their_most(rt: HostRuntime) -> Result<(), Fail> {
     let alloc = rt.alloc();
-    let rows = Some(TableCause::TooManyRows);
     let before = RowsBefore::new(200_000, None, 0);
+    let rows = Some(TableFault::at(200_001, 0, TableCause::TooManyRows));
+    let width = Some(TableFault::at(200_001, 0, TableCause::Width));
     check_limits(&rt, alloc, before, b"0,1,2", rows, None)?;
-    check_limits(&rt, alloc, before, b"0", rows, Some(TableCause::Width))?;
+    check_limits(&rt, alloc, before, b"0", rows, width)?;
     let before = RowsBefore::new(3_999_999_999, None, 1_000_000_000_000);
+    let rows = Some(TableFault::at(4_000_000_000, 0, TableCause::TooManyRows));
     check_limits(&rt, alloc, before, b"0,1,2", rows, None)?;
     let before = RowsBefore::new(4_000_000_000, None, 0);
+    let rows = Some(TableFault::at(4_000_000_001, 0, TableCause::TooManyRows));
     check_limits(&rt, alloc, before, b"a", rows, rows)
 }
 
@@ -372,14 +386,11 @@ fn rows_are_told_with_what_stands_before(rt: HostRuntime) -> Result<(), Fail> {
     let header = header_of(alloc, &rules, b',', b"time,x,y")??;
     let row = row_of(alloc, &rules, &header, RowsBefore::none(), b',', b"-2,1,")??;
     let before = seven_rows().after(&row);
-    assert_eq!(rt; before.rows(), 8);
-    assert_eq!(rt; before.ticks(), Some(-2_000_000_000));
-    assert_eq!(rt; before.readings(), 4);
+    assert!(rt; before.rows() == 8);
+    assert!(rt; before.ticks() == Some(-2_000_000_000));
+    assert!(rt; before.readings() == 4);
     let fault = row_of(alloc, &rules, &header, before, b',', b"-2,1,")?.err();
-    assert_eq!(rt;
-        fault,
-        Some(TableFault::at(9, 1, TableCause::TimeNotRising))
-    );
+    assert!(rt; fault == Some(TableFault::at(9, 1, TableCause::TimeNotRising)));
     Ok(())
 }
 
@@ -397,10 +408,10 @@ fn written(alloc: Global, rules: &Rules, row: &Row, value: i64) -> Result<Vec<u8
 
 /// The line is a row with these ticks, in which each of so many readings is this value.
 fn check_values(rt: &impl Abort, row: &Row, ticks: i64, count: usize, value: i64) {
-    assert_eq!(rt; row.ticks(), ticks);
-    assert_eq!(rt; row.readings().len(), count);
+    assert!(rt; row.ticks() == ticks);
+    assert!(rt; row.readings().len() == count);
     for reading in row.readings() {
-        assert_eq!(rt; reading.value, value);
+        assert!(rt; reading.value == value);
     }
 }
 
