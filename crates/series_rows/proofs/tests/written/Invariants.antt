@@ -4,5 +4,5 @@ use Rattle.std.specs.List.{AllByRecursion}
 use Rattle.fix_point.specs.declared.scale.TheConstants.{MOST_UNITS}
 use Rattle.series_rows.proofs.tests.written.Given as goal
 
-abbrev pub invariant-loop-_place : goal.invariant-loop-_place
-invariant-loop-_place l = (length l.series ≡ l._place) × AllByRecursion (λ value. unsigned_abs value ≤ unsigned_abs MOST_UNITS) l.series
+abbrev pub invariant-loop-place : goal.invariant-loop-place
+invariant-loop-place l = (length l.series ≡ l.place) × AllByRecursion (λ value. unsigned_abs value ≤ unsigned_abs MOST_UNITS) l.series
