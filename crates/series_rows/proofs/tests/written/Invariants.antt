@@ -5,4 +5,4 @@ use Rattle.fix_point.specs.declared.scale.TheConstants.{MOST_UNITS}
 use Rattle.series_rows.proofs.tests.written.Given as goal
 
 abbrev pub invariant-loop-place : goal.invariant-loop-place
-invariant-loop-place l = (length l.series ≡ l.place) × AllByRecursion (λ value. unsigned_abs value ≤ unsigned_abs MOST_UNITS) l.series
+invariant-loop-place l = (length l.series ≡ l._place) × AllByRecursion (λ value. unsigned_abs value ≤ unsigned_abs MOST_UNITS) l.series
