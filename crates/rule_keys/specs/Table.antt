@@ -1,5 +1,5 @@
 -- To be believed: what a table of a rule file is read as: its entries, or the first cause to refuse it.
-use Rattle.std.specs.Prelude.{◌≡◌, ◌≢◌, ◌⊎◌, ℕ, ◌*◌, ◌^◌, ◌≤◌, ℤ, ◌≤ℤ◌, List, [], ◌∷◌, map, Option, Some, None, Result, Ok, Err, unsigned_abs, Contains}
+use Rattle.std.specs.Prelude.{◌≡◌, ◌≢◌, ◌⊎◌, ℕ, ℤ, ◌≤ℤ◌, List, [], ◌∷◌, map, Option, Some, None, Result, Ok, Err, unsigned_abs, Contains}
 use Rattle.std.specs.List.{AllByRecursion}
 use Rattle.toml.specs.Data.{Data, Members, no_members, member, get_member}
 use Rattle.fix_point.specs.declared.rate.Rate.{Rate}
