@@ -1,0 +1,2 @@
+//! Bounds of pairs.
+use crate::Stamp;
