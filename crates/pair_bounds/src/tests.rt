@@ -83,14 +83,16 @@ fn swings_within_the_window(rt: HostRuntime) -> Result<(), Fail> {
 
 #[test]
 fn drifts_from_over_to_the_window(rt: HostRuntime) -> Result<(), Fail> {
-    let rate = |millionths| Rate {
-        millionths,
-        per: 10,
-    };
     let rule = DriftRule {
         sensor: Name::from_slice(rt.alloc(), b"x")?,
-        min: rate(-1_500_000),
-        max: rate(1_000_000),
+        min: Rate {
+            millionths: -1_500_000,
+            per: 10,
+        },
+        max: Rate {
+            millionths: 1_000_000,
+            per: 10,
+        },
         over: 10 * SECOND,
         window: 20 * SECOND,
         price: 0,
