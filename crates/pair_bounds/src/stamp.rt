@@ -1,5 +1,5 @@
 //! Rows with their times.
-ghost use Rattle.std.specs.Prelude.{◌≡◌, ◌^◌, ◌≤◌, unsigned_abs};
+ghost use Rattle.std.specs.Prelude.{◌≡◌};
 ghost use Rattle.pair_bounds.specs.Pairs.{elapsed, place_in};
 
 use screen_model::Place;

@@ -95,9 +95,11 @@ fn drifts_from_over_to_the_window(rt: HostRuntime) -> Result<(), Fail> {
         },
         over: 10 * SECOND,
         window: 20 * SECOND,
-        price: 0,
+        price: 1_000,
     };
     let cases = [
+        (0, Side::Down, None),
+        (-10, Side::Up, None),
         (9, Side::Up, None),
         (10, Side::Up, bound((1, 2), (3, 2), 1, Side::Up)),
         (10, Side::Down, bound((1, 2), (3, 2), 1, Side::Down)),
@@ -122,7 +124,7 @@ fn rows_with_both_sensors(rt: HostRuntime) -> Result<(), Fail> {
         second: Name::from_slice(rt.alloc(), b"y")?,
         min: -2,
         max: 9,
-        price: 0,
+        price: 1,
     };
     let cases = [
         (None, None, Side::Up, None),
