@@ -1,5 +1,5 @@
 -- Narrow rules.
-use Rattle.std.proofs.Common.{◌≡◌, ℕ, ◌*◌, ◌^◌, ◌≤◌, ℤ, pos, ◌*ℤ◌, ◌≤ℤ◌, List, [], ◌∷◌, get_or, ap, sym, subst, ◌∙◌, Option, None, Some, MatchOption, arith}
+use Rattle.std.proofs.Common.{◌≡◌, ℕ, ◌*◌, ◌^◌, ◌≤◌, ℤ, pos, ◌*ℤ◌, ◌≤ℤ◌, List, [], ◌∷◌, get_or, ap, sym, subst, ◌∙◌, Option, None, Some, MatchOption, Result, Ok, Err, IfOk, arith}
 use Rattle.std.proofs.lemmas.Int.{ints}
 use Rattle.rule_file.specs.declared.rules.SpeedRule.{SpeedRule}
 use Rattle.rule_file.specs.declared.rules.Rules.{Rules}
@@ -28,3 +28,7 @@ pub narrow_from : (rules : Rules) (rule : SpeedRule) (found : Option WholeSpeed)
 narrow_from rules rule None plain alone one numbers = λ speed narrow.
     numbers speed (subst (λ (r : SpeedRule). IsWholeSpeed r speed) (first_is rule narrow.lone.0 rules.speeds one narrow.lone.1) narrow.lone.2)
 narrow_from rules rule (Some f) plain alone one numbers = record { plain = plain; alone = alone; lone = (rule, one, numbers) }
+
+pub narrow_if_ok : {E : Type 0} (rules : Rules) (rule : SpeedRule) (answer : Result (Option WholeSpeed) E) → IsPlain rules.format → HasSpeedsAlone rules → rules.speeds ≡ rule ∷ [] → IfOk answer (λ found. MatchOption found ((speed : WholeSpeed) → ¬ IsWholeSpeed rule speed) (IsWholeSpeed rule)) → IfOk answer (λ found. MatchOption found ((speed : WholeSpeed) → ¬ IsNarrow rules speed) (IsNarrow rules))
+narrow_if_ok rules rule (Ok found) plain alone one whole = narrow_from rules rule found plain alone one whole
+narrow_if_ok rules rule (Err e) plain alone one whole = whole
