@@ -1,0 +1,10 @@
+pub mod Blocked
+pub mod BothWays
+pub mod Building
+pub mod Duals
+pub mod Elements
+pub mod Pushing
+pub mod Readings
+pub mod Sizes
+pub mod Solved
+pub mod Totals
