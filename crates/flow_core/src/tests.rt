@@ -1,4 +1,4 @@
-//! Networks of no reading and of four: their arcs, pushes on them, and what then is there in each view.
+//! Networks of no reading, of one and of four: their arcs, pushes on them, and what then is there in each view.
 ghost use Rattle.std.specs.Prelude.{◌≡◌, ◌≤◌};
 
 use crate::{
@@ -37,8 +37,26 @@ fn bound(first: End, second: End, limit: i64) -> Bound
     }
 }
 
+/// The reading 70 with this weight, its range, and the bound that it is at most 50, at this price.
+fn one_reading(alloc: Global, weight: u32, price: u32) -> Result<Network, AllocError>
+    requires weight { weight ≤ 1000 }
+    requires price { price ≤ 1000 }
+{
+    let places = Places::from_slice(alloc, &[FIRST])?;
+    let values = Series::from_slice(alloc, &[70])?;
+    let bounds = BoundList::from_slice(
+        alloc,
+        &[
+            bound(End::Zero, End::At(FIRST), RANGE),
+            bound(End::At(FIRST), End::Zero, RANGE),
+            bound(End::Zero, End::At(FIRST), 50),
+        ],
+    )?;
+    Network::new(alloc, &values, &[weight], &[0, 0, price], &bounds, &places)
+}
+
 /// The readings 10, 11, 20 and 13 with equal weights, their ranges, and the bounds that the third one lies at most 1
-/// above the second, at this price, and at most 1 below it.
+/// above the second and at most 1 below it, both at this price.
 fn four_readings(alloc: Global, weight: u32, price: u32) -> Result<Network, AllocError>
     requires weight { weight ≤ 1000 }
     requires price { price ≤ 1000 }
@@ -61,7 +79,7 @@ fn four_readings(alloc: Global, weight: u32, price: u32) -> Result<Network, Allo
         ],
     )?;
     let weights = [weight; 4];
-    let prices = [0, 0, 0, 0, 0, 0, 0, 0, price, 0];
+    let prices = [0, 0, 0, 0, 0, 0, 0, 0, price, price];
     Network::new(alloc, &values, &weights, &prices, &bounds, &places)
 }
 
@@ -136,23 +154,40 @@ fn a_flow_pushed_by_hand(rt: HostRuntime) -> Result<(), Fail> {
 }
 
 #[test]
-fn a_price_fills_a_bound(rt: HostRuntime) -> Result<(), Fail> {
+fn one_reading_pays_a_price(rt: HostRuntime) -> Result<(), Fail> {
+    let mut net = one_reading(rt.alloc(), 5, 3)?;
+    assert_eq!(rt; (net.nodes(), net.arcs(), net.bounds()), (2, 5, 3));
+    leaving_are(&rt, &net, 1, &[1, 2, 5, 7, 8]);
+    // The most that is paid for the 20 above the limit, since moving the reading costs 5 for each.
+    push(&rt, &mut net, 2, false, 3);
+    push(&rt, &mut net, 4, false, 3);
+    excesses_are(&rt, &net, &[0, 0]);
+    assert_eq!(rt; net.value(), 60);
+    assert_eq!(rt; net.tight_arcs().arc(4), None);
+    assert_eq!(rt; net.tight_arcs().arc(5), Some(Arc { tail: 1, head: 0, cost: -50 }));
+    Ok(())
+}
+
+#[test]
+fn prices_between_readings(rt: HostRuntime) -> Result<(), Fail> {
     let mut net = four_readings(rt.alloc(), 1_000, 7)?;
-    assert_eq!(rt; (net.nodes(), net.arcs(), net.bounds()), (5, 18, 10));
     // No price: all weights, all prices and 1 more.
-    assert_eq!(rt; net.residual(9, false), 4_008);
+    assert_eq!(rt; net.residual(0, false), 4_015);
     assert_eq!(rt; net.residual(8, false), 7);
     assert_eq!(rt; net.residual(10, false), 1_000);
     assert!(rt; net.tight_arcs().arc(16).is_some());
+    push(&rt, &mut net, 12, false, 7);
     push(&rt, &mut net, 8, false, 7);
-    assert_eq!(rt; net.residual(8, false), 0);
+    push(&rt, &mut net, 15, false, 7);
+    excesses_are(&rt, &net, &[0, 0, 0, 0, 0]);
+    assert_eq!(rt; net.value(), 56);
     assert_eq!(rt; net.tight_arcs().arc(16), None);
     assert_eq!(rt; net.bound_arcs().arc(16), None);
     assert_eq!(rt; net.tight_arcs().arc(17), Some(Arc { tail: 3, head: 2, cost: -1 }));
-    push(&rt, &mut net, 9, false, 4_008);
-    assert_eq!(rt; net.residual_arcs().arc(18), None);
-    assert!(rt; net.tight_arcs().arc(18).is_some());
-    assert_eq!(rt; net.flow(9), 4_008);
+    push(&rt, &mut net, 0, false, 4_015);
+    assert_eq!(rt; net.residual_arcs().arc(0), None);
+    assert!(rt; net.tight_arcs().arc(0).is_some());
+    assert_eq!(rt; net.flow(0), 4_015);
     assert_eq!(rt; net.potential(4), 0);
     net.set_potential(4, -5);
     assert_eq!(rt; (net.potential(4), net.potential(3)), (-5, 0));
