@@ -12,7 +12,8 @@ use Rattle.cert_format.specs.declared.fault.CertRead.{CertRead}
 use Rattle.cert_format.specs.declared.fault.CertRead.TheVariants.{Syntax}
 use Rattle.cert_format.specs.declared.draft.Draft.{Draft}
 use Rattle.cert_format.specs.declared.draft.Draft.TheVariants.{Empty}
-use Rattle.cert_format.specs.declared.limits.TheConstants.{MOST_ROW, MOST_COL, MOST_RULE}
+use Rattle.screen_model.specs.declared.limits.TheConstants.{MOST_COLUMNS, MOST_ROWS}
+use Rattle.cert_format.specs.declared.limits.TheConstants.{MOST_RULE}
 use Rattle.cert_format.specs.declared.line.Line.{Line}
 use Rattle.cert_format.specs.declared.line.Line.TheVariants.{Header, ClaimRepair, ClaimNone, Total, Paid, Set, Flow, Step, End}
 use Rattle.cert_format.specs.Words.{line_feed, text_of_lines}
@@ -50,7 +51,7 @@ place_or place =
     same
     (λ h. record { row_least = h.0; row_most = h.1.0; col_least = h.1.1.0; col_most = h.1.1.1 })
     (λ is. (is.row_least, (is.row_most, (is.col_least, is.col_most))))
-    (both (at_most 1 place.row) (both (at_most place.row MOST_ROW) (both (at_most 1 place.col) (at_most place.col MOST_COL))))
+    (both (at_most 1 place.row) (both (at_most place.row MOST_ROWS) (both (at_most 1 place.col) (at_most place.col MOST_COLUMNS))))
 
 name_or : (name : BoundName) → Or (IsName name)
 name_or name =
@@ -60,7 +61,7 @@ name_or name =
     (
     both (at_most name.rule MOST_RULE) (
     both (at_most 1 name.from_row) (
-    both (at_most name.from_row MOST_ROW) (both (at_most 1 name.to_row) (both (at_most name.to_row MOST_ROW) (both (at_most 1 name.col) (at_most name.col MOST_COL))))
+    both (at_most name.from_row MOST_ROWS) (both (at_most 1 name.to_row) (both (at_most name.to_row MOST_ROWS) (both (at_most 1 name.col) (at_most name.col MOST_COLUMNS))))
     )
     )
     )

@@ -1,7 +1,7 @@
 -- What may come after the last member of a list.
 use Rattle.std.proofs.Common.{◌≡◌, ℕ, ◌-◌, suc, Some, List, [], ◌∷◌, length, ap, ◌∙◌, arith}
 use Rattle.std.specs.List.{slice_get}
-use Rattle.cert_format.specs.Order.{is_before}
+use Rattle.screen_model.specs.Order.{is_before}
 use Rattle.cert_format.specs.Draft.{follows}
 
 behind_first : {A : Type 0} (x y : A) (xs : List A) (last : A) → Some last ≡ slice_get (x ∷ y ∷ xs) (length (x ∷ y ∷ xs) - 1) → Some last ≡ slice_get (y ∷ xs) (length (y ∷ xs) - 1)

@@ -8,7 +8,8 @@ use Rattle.cert_format.specs.declared.cert.SetLine.{SetLine}
 use Rattle.cert_format.specs.declared.line.Line.{Line}
 use Rattle.cert_format.specs.declared.line.Line.TheVariants.{Header, ClaimRepair, ClaimNone, Total, Paid, Set, Flow, Step, End}
 use Rattle.cert_format.specs.Line.{IsSet, IsItem, IsLine}
-use Rattle.cert_format.specs.Order.{Rises, set_key, item_key}
+use Rattle.screen_model.specs.Order.{Rises, item_key}
+use Rattle.cert_format.specs.Order.{set_key}
 use Rattle.cert_format.specs.Cert.{AreLists}
 use Rattle.cert_format.specs.Draft.{follows, lists_with}
 

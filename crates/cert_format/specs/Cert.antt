@@ -10,7 +10,8 @@ use Rattle.cert_format.specs.declared.line.Line.{Line}
 use Rattle.cert_format.specs.declared.line.Line.TheVariants.{Header, ClaimRepair, ClaimNone, Total, Paid, Set, Flow, Step, End}
 use Rattle.cert_format.specs.Words.{text_of_lines}
 use Rattle.cert_format.specs.Line.{IsTotal, IsSet, IsItem, IsName, text_of_line}
-use Rattle.cert_format.specs.Order.{Rises, set_key, item_key}
+use Rattle.screen_model.specs.Order.{Rises, item_key}
+use Rattle.cert_format.specs.Order.{set_key}
 
 -- the lines of a certificate, up to the last line `end`
 abbrev pub lines_before_end : Cert → List Line

@@ -11,7 +11,8 @@ use Rattle.cert_format.specs.declared.line.Version.{Version}
 use Rattle.cert_format.specs.declared.line.Version.TheVariants.{One, Two}
 use Rattle.cert_format.specs.declared.line.Line.{Line}
 use Rattle.cert_format.specs.declared.line.Line.TheVariants.{Header, ClaimRepair, ClaimNone, Total, Paid, Set, Flow, Step, End}
-use Rattle.cert_format.specs.Order.{is_before, set_key, item_key}
+use Rattle.screen_model.specs.Order.{is_before, item_key}
+use Rattle.cert_format.specs.Order.{set_key}
 
 -- it is the first, or it comes after the last of these
 abbrev pub follows : {A : Type 0} → (A → List ℕ) → List A → A → Bool

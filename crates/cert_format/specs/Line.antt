@@ -7,7 +7,8 @@ use Rattle.screen_model.specs.declared.bound.FlowItem.{FlowItem}
 use Rattle.screen_model.specs.declared.bound.Side.{Side}
 use Rattle.screen_model.specs.declared.bound.Side.TheVariants.{Up, Down}
 use Rattle.cert_format.specs.declared.cert.SetLine.{SetLine}
-use Rattle.cert_format.specs.declared.limits.TheConstants.{MOST_ROW, MOST_COL, MOST_RULE, MOST_AMOUNT, VALUE_DIGITS, TOTAL_DIGITS}
+use Rattle.screen_model.specs.declared.limits.TheConstants.{MOST_COLUMNS, MOST_ROWS}
+use Rattle.cert_format.specs.declared.limits.TheConstants.{MOST_RULE, MOST_AMOUNT, VALUE_DIGITS, TOTAL_DIGITS}
 use Rattle.cert_format.specs.declared.line.Version.{Version}
 use Rattle.cert_format.specs.declared.line.Version.TheVariants.{One, Two}
 use Rattle.cert_format.specs.declared.line.Line.{Line}
@@ -18,18 +19,18 @@ use Rattle.cert_format.specs.Words.{line_of_words}
 
 pub record IsPlace (place : Place) : Type 0 where
   pub row_least : 1 ≤ place.row
-  pub row_most : place.row ≤ MOST_ROW
+  pub row_most : place.row ≤ MOST_ROWS
   pub col_least : 1 ≤ place.col
-  pub col_most : place.col ≤ MOST_COL
+  pub col_most : place.col ≤ MOST_COLUMNS
 
 pub record IsName (name : BoundName) : Type 0 where
   pub rule : name.rule ≤ MOST_RULE
   pub from_least : 1 ≤ name.from_row
-  pub from_most : name.from_row ≤ MOST_ROW
+  pub from_most : name.from_row ≤ MOST_ROWS
   pub to_least : 1 ≤ name.to_row
-  pub to_most : name.to_row ≤ MOST_ROW
+  pub to_most : name.to_row ≤ MOST_ROWS
   pub col_least : 1 ≤ name.col
-  pub col_most : name.col ≤ MOST_COL
+  pub col_most : name.col ≤ MOST_COLUMNS
 
 abbrev pub IsValue : ℤ → Type 0
 IsValue value = unsigned_abs value < 10 ^ VALUE_DIGITS

@@ -21,7 +21,7 @@ mod write;
 pub use cert::{Cert, SetLine, SetList};
 pub use fault::CertRead;
 pub use laws::{an_answer, one_answer, one_spelling, round_trip, short_texts};
-pub use limits::{LONGEST, MOST_AMOUNT, MOST_COL, MOST_ROW, MOST_RULE, TOTAL_DIGITS, VALUE_DIGITS};
+pub use limits::{LONGEST, MOST_AMOUNT, MOST_RULE, TOTAL_DIGITS, VALUE_DIGITS};
 pub use line::{Line, Version};
 pub use read::read_cert;
 pub use write::{push_line, write_cert};

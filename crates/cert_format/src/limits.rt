@@ -1,11 +1,5 @@
 //! How great the numbers of a certificate and its text may be.
 
-/// The greatest row.
-pub const MOST_ROW: u32 = 200_000;
-
-/// The greatest column.
-pub const MOST_COL: u32 = 256;
-
 /// The greatest number of a rule; the least is 0.
 pub const MOST_RULE: u32 = 1_000;
 

@@ -1,7 +1,8 @@
 //! The strict orders of set lines and flow lines.
 ghost use Rattle.std.specs.Prelude.{◌≡◌, length};
 ghost use Rattle.cert_format.specs.Draft.{follows};
-ghost use Rattle.cert_format.specs.Order.{is_before, item_key, name_key, place_key, set_key};
+ghost use Rattle.screen_model.specs.Order.{is_before, item_key, name_key, place_key};
+ghost use Rattle.cert_format.specs.Order.{set_key};
 
 use crate::cert::SetLine;
 use screen_model::{BoundName, FlowItem, Place, Side};

@@ -9,10 +9,10 @@ ghost use Rattle.cert_format.specs.Line.{IsName, IsItem, IsSet, IsLine, side_wor
 ghost use Rattle.cert_format.specs.Fields.{HasNoNumber, item_fields, name_fields, set_fields};
 
 use crate::cert::SetLine;
-use crate::limits::{MOST_COL, MOST_ROW, MOST_RULE};
+use crate::limits::MOST_RULE;
 use crate::line::{Line, Version};
 use crate::number::{amount_of, number_then, total_of, value_spelled};
-use screen_model::{BoundName, FlowItem, Place, Side};
+use screen_model::{BoundName, FlowItem, MOST_COLUMNS, MOST_ROWS, Place, Side};
 
 /// The line that the bytes are.
 pub(crate) fn line_of(bytes: &[u8]) -> Option<Line>
@@ -69,8 +69,8 @@ fn set_of(fields: &[u8]) -> Option<SetLine>
     ensures found { IfSome result (λ line. IsSet line × (fields.now ≡ set_fields line)) }
     ensures only { (line : SetLine) → IsSet line → fields.now ≡ set_fields line → IsSomeAnd result (λ found. found ≡ line) }
 {
-    let (row, rest) = number_then(fields, 1, MOST_ROW)?;
-    let (col, rest) = number_then(rest, 1, MOST_COL)?;
+    let (row, rest) = number_then(fields, 1, MOST_ROWS)?;
+    let (col, rest) = number_then(rest, 1, MOST_COLUMNS)?;
     let value = value_spelled(rest)?;
     Some(SetLine {
         place: Place { row, col },
@@ -104,9 +104,9 @@ fn name_at(bytes: &[u8]) -> Option<(BoundName, &[u8])>
         IsSomeAnd result (λ field. (field.0 ≡ name) × (field.1.now ≡ rest)) }
 {
     let (rule, rest) = number_then(bytes, 0, MOST_RULE)?;
-    let (from_row, rest) = number_then(rest, 1, MOST_ROW)?;
-    let (to_row, rest) = number_then(rest, 1, MOST_ROW)?;
-    let (col, rest) = number_then(rest, 1, MOST_COL)?;
+    let (from_row, rest) = number_then(rest, 1, MOST_ROWS)?;
+    let (to_row, rest) = number_then(rest, 1, MOST_ROWS)?;
+    let (col, rest) = number_then(rest, 1, MOST_COLUMNS)?;
     let (side, rest) = side_at(rest)?;
     let name = BoundName {
         rule,

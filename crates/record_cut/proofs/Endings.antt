@@ -1,6 +1,7 @@
 -- What the end of the text leaves of a record of which a part has been read.
 use Rattle.std.proofs.Common.{◌≡◌, ℕ, ◌+◌, ◌≤◌, nat_lt, false, IsTrue, List, [], ◌∷◌, ◌++◌, length, None, refl, sym, ap, ◌∙◌, arith, le-ltb}
-use Rattle.record_cut.specs.Bytes.{is_separator, after_line_break}
+use Rattle.words.specs.Separators.{is_separator}
+use Rattle.record_cut.specs.Bytes.{after_line_break}
 use Rattle.record_cut.specs.Drafted.{Drafted}
 use Rattle.record_cut.specs.Field.{plain, led_by}
 use Rattle.record_cut.specs.Record.{Unended, Nothing as NoRecord, Fields, OpenField, CrAfterQuote, Ends, with_fields, record_at}

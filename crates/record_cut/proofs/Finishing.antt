@@ -1,7 +1,7 @@
 -- What a cutter answers at the end of the text.
 use Rattle.std.proofs.Common.{◌≡◌, ℕ, ◌≤◌, IsTrue, List, [], ◌∷◌, ◌++◌, length, Option, None, Some, Err, refl, sym, ap, ◌∙◌, subst, arith}
 use Rattle.std.proofs.lemmas.List.{append-nil}
-use Rattle.record_cut.specs.Bytes.{is_separator}
+use Rattle.words.specs.Separators.{is_separator}
 use Rattle.record_cut.specs.Drafted.{Drafted}
 use Rattle.record_cut.specs.Record.{Unended, Nothing as NoRecord, Fields, OpenField, CrAfterQuote}
 use Rattle.record_cut.specs.Records.{Onward, Cut, Rest, with_records, only, text_from, records}

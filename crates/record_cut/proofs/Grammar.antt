@@ -2,7 +2,8 @@
 use Rattle.std.proofs.Common.{◌≡◌, ◌≢◌, ℕ, ◌==◌, true, false, IsTrue, List, [], ◌∷◌, Some, None, refl, sym, ap, ◌∙◌, ne_eqb, eq-eqb}
 use Rattle.std.proofs.lemmas.Bool.{both_ways}
 use Rattle.words.proofs.Texts.{or_right}
-use Rattle.record_cut.specs.Bytes.{is_separator, after_line_feed, after_line_break}
+use Rattle.words.specs.Separators.{is_separator}
+use Rattle.record_cut.specs.Bytes.{after_line_feed, after_line_break}
 use Rattle.record_cut.specs.Field.{led_by, led_if_any, quoted, ends_plain, plain, field_at, Next, Line, End, LastCr, Wrong, after_field}
 
 -- a byte that is no separator is another one than this

@@ -1,6 +1,7 @@
 -- The first bytes of a record.
 use Rattle.std.proofs.Common.{◌≡◌, ◌≢◌, ℕ, ◌+◌, IsTrue, List, [], ◌∷◌, ◌++◌, length, Some, None, refl, sym, ap, ◌∙◌, arith, ne_eqb}
-use Rattle.record_cut.specs.Bytes.{is_separator, after_line_break}
+use Rattle.words.specs.Separators.{is_separator}
+use Rattle.record_cut.specs.Bytes.{after_line_break}
 use Rattle.record_cut.specs.Drafted.{Drafted}
 use Rattle.record_cut.specs.Field.{plain, led_by}
 use Rattle.record_cut.specs.Record.{Nothing, Fields, OpenField, CrAfterQuote, RecordAt, Whole, Bad, Ends, with_fields, record_at}

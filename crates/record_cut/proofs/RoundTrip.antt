@@ -3,7 +3,8 @@ use Rattle.std.proofs.Common.{◌≡◌, ◌≢◌, inl, inr, ℕ, ◌-◌, ◌<
 use Rattle.std.proofs.lemmas.Bool.Decides.{eqb_tells}
 use Rattle.std.proofs.lemmas.Bool.{both_ways}
 use Rattle.words.proofs.Texts.{or_right}
-use Rattle.record_cut.specs.Bytes.{is_separator, after_line_break}
+use Rattle.words.specs.Separators.{is_separator}
+use Rattle.record_cut.specs.Bytes.{after_line_break}
 use Rattle.record_cut.specs.Field.{led_by, led_if_any, quoted, ends_plain, plain, field_at}
 use Rattle.record_cut.specs.Record.{Nothing, Whole, with_fields, record_at}
 use Rattle.record_cut.specs.Records.{Cut, Rest, with_records, by_record, records_from, without_mark, records}

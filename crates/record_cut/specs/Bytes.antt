@@ -1,5 +1,5 @@
 -- To be believed: the bytes that mean something in a CSV text.
-use Rattle.std.specs.Prelude.{ℕ, Bool, ◌==◌, ◌||◌, List, [], ◌∷◌, Option, Some, None, if◌then◌else◌}
+use Rattle.std.specs.Prelude.{ℕ, Bool, ◌==◌, List, [], ◌∷◌, Option, Some, None, if◌then◌else◌}
 
 abbrev pub quote : ℕ
 quote = 34
@@ -9,10 +9,6 @@ line_feed = 10
 
 abbrev pub carriage_return : ℕ
 carriage_return = 13
-
--- a comma, a semicolon, a tab or a vertical bar
-abbrev pub is_separator : ℕ → Bool
-is_separator byte = byte == 44 || byte == 59 || byte == 9 || byte == 124
 
 -- what follows a line feed, if the bytes begin with one
 abbrev pub after_line_feed : List ℕ → Option (List ℕ)

@@ -1,6 +1,6 @@
 -- To be believed: what a text is cut into, one that has ended and one that may go on.
 use Rattle.std.specs.Prelude.{◌≡◌, ℕ, IsTrue, List, [], ◌∷◌, ◌++◌, Option, Some, None}
-use Rattle.record_cut.specs.Bytes.{is_separator}
+use Rattle.words.specs.Separators.{is_separator}
 use Rattle.record_cut.specs.Record.{Nothing, Fields, OpenField, CrAfterQuote}
 use Rattle.record_cut.specs.Records.{Onward, Fault, Rest, Cut, records}
 use Rattle.record_cut.specs.declared.fault.CutFault.{CutFault}

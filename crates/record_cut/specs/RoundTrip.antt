@@ -1,6 +1,6 @@
 -- To be believed: what is written by rows is cut back into them.
 use Rattle.std.specs.Prelude.{◌≡◌, ℕ, ◌<◌, ◌≤◌, IsTrue, List, [], ◌∷◌, ◌++◌, length}
-use Rattle.record_cut.specs.Bytes.{is_separator}
+use Rattle.words.specs.Separators.{is_separator}
 use Rattle.record_cut.specs.Record.{Nothing}
 use Rattle.record_cut.specs.Records.{Rest, records}
 use Rattle.record_cut.specs.Row.{text_of_row}

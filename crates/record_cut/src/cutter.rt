@@ -1,7 +1,7 @@
 //! A cutter of CSV records, which is fed the bytes of a text one at a time or by slices.
 
 ghost use Rattle.std.specs.Prelude.{◌≤◌, ◌*◌, IsTrue};
-ghost use Rattle.record_cut.specs.Bytes.{is_separator};
+ghost use Rattle.words.specs.Separators.{is_separator};
 ghost use Rattle.record_cut.specs.Drafted.{size_of};
 ghost use Rattle.record_cut.specs.declared.cutter.TheConstants.{LONGEST};
 
@@ -33,7 +33,7 @@ pub struct Cutter {
 
 impl Cutter {
     ghost use Rattle.std.specs.Prelude.{◌≡◌, ℕ, ◌<◌, ◌≤◌, List, [], ◌∷◌, ◌++◌, take, length, Option, Some, None, Result, Ok, Err, IsTrue, IfOk, OnOk, IfErr};
-    ghost use Rattle.record_cut.specs.Bytes.{is_separator};
+    ghost use Rattle.words.specs.Separators.{is_separator};
     ghost use Rattle.record_cut.specs.StandsFor.{StandsFor, HasRefused, HasBegun};
     ghost use Rattle.record_cut.specs.Feeds.{GoesOn, Feeds, Ends, taken_after};
     ghost use Rattle.record_cut.specs.declared.fault.CutFault.{CutFault};

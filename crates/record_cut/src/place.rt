@@ -1,7 +1,7 @@
 //! What a byte does at each place of a record.
 
 ghost use Rattle.std.specs.Prelude.{◌+◌, ◌<◌, ◌≤◌, ◌^◌, ℕ, length, take, IsTrue, IfSome};
-ghost use Rattle.record_cut.specs.Bytes.{is_separator};
+ghost use Rattle.words.specs.Separators.{is_separator};
 ghost use Rattle.record_cut.specs.Drafted.{Drafted, size_of};
 ghost use Rattle.record_cut.specs.Resumed.{FitsPlace, Fits};
 ghost use Rattle.record_cut.specs.Moves.{Keeps, EndsField, Moves, Opens, IsRun, RunsTo, Leaves};

@@ -20,7 +20,8 @@ use Rattle.rule_keys.specs.Entries.{Meaning, number, name, chosen, nothing, mean
 use Rattle.rule_keys.specs.Keys.{key_of, keys_of, price_key}
 use Rattle.rule_keys.specs.Words.{words, Means}
 use Rattle.rule_keys.proofs.Fits.{key_named, entry_stands, entry_fits}
-use Rattle.rule_file.specs.Limits.{is_separator, AreRates, IsSpan, IsUnits, IsMoment, IsPeriod}
+use Rattle.words.specs.Separators.{is_separator}
+use Rattle.rule_file.specs.Limits.{AreRates, IsSpan, IsUnits, IsMoment, IsPeriod}
 use Rattle.rule_file.specs.Meaning.{Entries, IsRateAt}
 
 pub within_limits : (least most : ℤ) (meaning : Meaning) → IsWithin least most meaning → (least ≤ℤ number_in meaning) × (number_in meaning ≤ℤ most)

@@ -1,14 +1,11 @@
 -- To be believed: the limits that the rules keep.
-use Rattle.std.specs.Prelude.{◌≡◌, ℕ, ◌≤◌, ℤ, pos, neg_ℤ, ◌≤ℤ◌, Bool, ◌||◌, ◌==◌, IsTrue}
+use Rattle.std.specs.Prelude.{◌≡◌, ℕ, ◌≤◌, ℤ, pos, neg_ℤ, ◌≤ℤ◌, IsTrue}
+use Rattle.words.specs.Separators.{is_separator}
 use Rattle.fix_point.specs.declared.rate.Rate.{Rate}
 use Rattle.fix_point.specs.Rates.{IsRate, IsInReach}
 use Rattle.fix_point.specs.declared.scale.TheConstants.{MOST_UNITS}
 use Rattle.time_text.specs.declared.form.TheConstants.{MOST_TICKS}
 use Rattle.rule_keys.specs.declared.limits.TheConstants.{MOST_DECIMALS, MOST_HOLD, MOST_SPAN}
-
--- a comma, a semicolon, a tab or a vertical bar
-abbrev pub is_separator : ℕ → Bool
-is_separator c = (c == 44) || ((c == 59) || ((c == 9) || (c == 124)))
 
 pub record IsFormat (d sep held : ℕ) : Type 0 where
   pub decimals : d ≤ MOST_DECIMALS

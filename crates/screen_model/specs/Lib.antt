@@ -3,6 +3,7 @@ pub mod Cost
 pub mod Flow
 pub mod Names
 pub mod Obeys
+pub mod Order
 pub mod Parts
 pub mod Prices
 pub mod Series

@@ -8,6 +8,7 @@
 
 mod bound;
 mod laws;
+mod limits;
 mod place;
 #[cfg(test)]
 mod tests;
@@ -19,6 +20,7 @@ pub use laws::{
     names_over_parts, names_tell_bounds, prices_by_bound, prices_keep_bounds, sums_over_items,
     weak_duality, zero_prices,
 };
+pub use limits::{MOST_COLUMNS, MOST_READINGS, MOST_ROWS};
 pub use place::{End, Place};
 use sequence::Sequence;
 

@@ -1,5 +1,5 @@
 use Rattle.std.proofs.Common.{◌≡◌, length, drop}
-use Rattle.cert_format.specs.Order.{is_before}
+use Rattle.screen_model.specs.Order.{is_before}
 use Rattle.cert_format.proofs.order.is_before.Given as goal
 
 abbrev pub invariant-loop-one : goal.invariant-loop-one

@@ -1,4 +1,4 @@
-use Rattle.cert_format.specs.Order.{item_key}
+use Rattle.screen_model.specs.Order.{item_key}
 use Rattle.cert_format.proofs.Last.{follows-last}
 use Rattle.cert_format.proofs.order.item_follows.Goals as goal
 

@@ -1,5 +1,5 @@
 use Rattle.std.proofs.Common.{◌≡◌, ℕ, sym, subst, IsTrue}
-use Rattle.record_cut.specs.Bytes.{is_separator}
+use Rattle.words.specs.Separators.{is_separator}
 use Rattle.record_cut.specs.Drafted.{Drafted}
 use Rattle.record_cut.specs.Resumed.{Fits}
 use Rattle.record_cut.specs.Moves.{Opens}
