@@ -23,7 +23,8 @@ use Rattle.bound_graph.specs.Arcs.{IsArc}
 use Rattle.bound_graph.specs.Graph.{Digraph, index_of, node_of, arc_of_bound, arcs_of_bounds}
 use Rattle.bound_graph.specs.Values.{value_of}
 use Rattle.bound_graph.proofs.Arcs.{arcs_of_bounds_valid}
-use Rattle.flow_core.specs.declared.limits.TheConstants.{MOST_BOUNDS, MOST_READINGS, MOST_PRICE, MOST_WEIGHT, MOST_VALUE}
+use Rattle.screen_model.specs.declared.limits.TheConstants.{MOST_READINGS}
+use Rattle.flow_core.specs.declared.limits.TheConstants.{MOST_BOUNDS, MOST_PRICE, MOST_WEIGHT, MOST_VALUE}
 use Rattle.flow_core.specs.Layout.{FlowNetwork, IsLayout, HasRange, HasUnpriced, HasBound, IsRanged, network_of, nodes_of, reading_arcs, arcs_of, no_arc, capacities_of, unpriced_capacity}
 use Rattle.flow_core.specs.State.{NetworkState, IsNetwork, IsWithin, is_flowing, new_state, unit_balance}
 use Rattle.flow_core.specs.Views.{reversed, with_reverses}

@@ -3,8 +3,8 @@ pub mod BothWays
 pub mod Building
 pub mod Duals
 pub mod Elements
+pub mod Optimality
 pub mod Pushing
 pub mod Readings
 pub mod Sizes
-pub mod Solved
 pub mod Totals

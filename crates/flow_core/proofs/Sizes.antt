@@ -13,7 +13,8 @@ use Rattle.words.proofs.Products.{size_of_product, size_of_minus, size_within, w
 use Rattle.bound_graph.specs.declared.arc.Arc.{Arc}
 use Rattle.bound_graph.specs.Arcs.{IsArc}
 use Rattle.bound_graph.specs.Values.{value_of}
-use Rattle.flow_core.specs.declared.limits.TheConstants.{MOST_BOUNDS, MOST_READINGS, MOST_PRICE, MOST_WEIGHT, MOST_VALUE}
+use Rattle.screen_model.specs.declared.limits.TheConstants.{MOST_READINGS}
+use Rattle.flow_core.specs.declared.limits.TheConstants.{MOST_BOUNDS, MOST_PRICE, MOST_WEIGHT, MOST_VALUE}
 use Rattle.flow_core.specs.Layout.{FlowNetwork, IsLayout, nodes_of, reading_arcs, arcs_of, arc_numbered, no_arc, twice, unpriced_capacity, capacity_at_price, capacities_of, capacity_numbered}
 use Rattle.flow_core.specs.State.{NetworkState, IsNetwork, IsWithin, one_if, unit_balance, balance, flow_on}
 use Rattle.flow_core.proofs.Elements.{zip_at, zip_right, length-twice, all_twice, twice_at}

@@ -11,7 +11,8 @@ use Rattle.bound_graph.specs.declared.arc.Arc.{Arc}
 use Rattle.bound_graph.specs.Arcs.{IsArc}
 use Rattle.bound_graph.specs.Graph.{arcs_of_bounds}
 use Rattle.std.specs.List.{Any}
-use Rattle.flow_core.specs.declared.limits.TheConstants.{MOST_BOUNDS, MOST_READINGS, MOST_PRICE, MOST_WEIGHT, MOST_VALUE}
+use Rattle.screen_model.specs.declared.limits.TheConstants.{MOST_READINGS}
+use Rattle.flow_core.specs.declared.limits.TheConstants.{MOST_BOUNDS, MOST_PRICE, MOST_WEIGHT, MOST_VALUE}
 
 -- The arc and the price of each bound, 0 for no price; and the value and the weight of each reading. Reading i is
 -- node i + 1, and node 0 stands for Zero.

@@ -6,7 +6,8 @@ ghost use Rattle.screen_model.specs.Obeys.{HasEnds};
 ghost use Rattle.bound_graph.specs.Graph.{arcs_of_bounds};
 ghost use Rattle.flow_core.specs.Layout.{reading_arcs};
 ghost use Rattle.flow_core.specs.Views.{reversed, with_reverses};
-ghost use Rattle.flow_core.specs.declared.limits.TheConstants.{MOST_BOUNDS, MOST_READINGS, MOST_VALUE};
+ghost use Rattle.screen_model.specs.declared.limits.TheConstants.{MOST_READINGS};
+ghost use Rattle.flow_core.specs.declared.limits.TheConstants.{MOST_BOUNDS, MOST_VALUE};
 
 use bound_graph::{Arc, ArcTable, arcs_of_bounds};
 use screen_model::{BoundList, Places};

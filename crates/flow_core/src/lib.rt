@@ -18,7 +18,7 @@ pub use laws::{
     balanced_everywhere, balanced_is_admissible, negative_cycle_is_blocked, pull_is_balance,
     solved_is_best,
 };
-pub use limits::{MOST_BOUNDS, MOST_PRICE, MOST_READINGS, MOST_VALUE, MOST_WEIGHT};
+pub use limits::{MOST_BOUNDS, MOST_PRICE, MOST_VALUE, MOST_WEIGHT};
 pub use network::Network;
 pub use solver::{Solved, Solver};
 pub use views::{Bare, Residual, Tight};

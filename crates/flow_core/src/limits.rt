@@ -3,9 +3,6 @@
 /// The most bounds.
 pub const MOST_BOUNDS: u32 = 4_000_000;
 
-/// The most readings.
-pub const MOST_READINGS: u32 = 400_000;
-
 /// The greatest price of a bound.
 pub const MOST_PRICE: u32 = 1_000;
 

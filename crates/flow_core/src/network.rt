@@ -11,11 +11,11 @@ ghost use Rattle.flow_core.specs.State.{IsNetwork, new_state, flow_on, residual_
 ghost use Rattle.flow_core.specs.Views.{with_reverses};
 
 use crate::build::arcs_both_ways;
-use crate::limits::{MOST_BOUNDS, MOST_PRICE, MOST_READINGS, MOST_VALUE, MOST_WEIGHT};
+use crate::limits::{MOST_BOUNDS, MOST_PRICE, MOST_VALUE, MOST_WEIGHT};
 use crate::numbers::{add, product, rise, unpriced_capacity};
 use crate::views::{Bare, Residual, Tight};
 use bound_graph::{Arc, ArcList, Graph};
-use screen_model::{BoundList, Places, Series};
+use screen_model::{BoundList, MOST_READINGS, Places, Series};
 use std::alloc::{AllocError, Global};
 use std::marker::Model;
 

@@ -1,4 +1,4 @@
-use Rattle.flow_core.proofs.Solved.{solved}
+use Rattle.flow_core.proofs.Optimality.{solved}
 use Rattle.flow_core.proofs.laws.solved_is_best.Goals as goal
 
 pub returns : goal.returns
