@@ -87,7 +87,7 @@ potentials_are potentials count long zero_there = sym (all_less potentials (valu
 
 -- ---- what is paid
 
-no_bound : Priced
+abbrev pub no_bound : Priced
 no_bound = record { bound = record { name = record { rule = 0; from_row = 0; to_row = 0; col = 0; side = Up }; first = Zero; second = Zero; limit = pos 0 }; price = 0 }
 
 -- a flow gains on a bound what is paid for it
@@ -244,10 +244,10 @@ cost_is problem flows series sound whole long is tight =
 
 -- ---- the unpriced bounds are among the tight arcs
 
-record IsFreeBound (places : List Place) (bounds : List Priced) (k : ℕ) (arc : Arc) : Type 0 where
-  below : k < length bounds
-  arc_is : arc_of_bound places (get_or bounds k no_bound).bound ≡ arc
-  price_is : (get_or bounds k no_bound).price ≡ 0
+pub record IsFreeBound (places : List Place) (bounds : List Priced) (k : ℕ) (arc : Arc) : Type 0 where
+  pub below : k < length bounds
+  pub arc_is : arc_of_bound places (get_or bounds k no_bound).bound ≡ arc
+  pub price_is : (get_or bounds k no_bound).price ≡ 0
 
 free_first : (places : List Place) (priced : Priced) (bounds : List Priced) (b : Bool) → eqb priced.price 0 ≡ b → IfSome (cond b (Some (arc_of_bound places priced.bound)) None) (IsFreeBound places (priced ∷ bounds) 0)
 free_first places priced bounds true e = record { below = omega arith; arc_is = refl; price_is = eqb-true priced.price 0 e }

@@ -28,6 +28,9 @@ length-reading_arcs node (value ∷ values) = omega (arith, length-reading_arcs 
 pub length-arcs_of : (network : FlowNetwork) → length (arcs_of network) ≡ length network.bounds + 2 * length network.values
 length-arcs_of network = omega (arith, length-append network.bounds (reading_arcs 1 network.values), length-reading_arcs 1 network.values)
 
+pub arcs_counted : (network : FlowNetwork) → IsLayout network → length (arcs_of network) ≡ length network.prices + 2 * length network.weights
+arcs_counted network is = omega (arith, length-arcs_of network, is.priced, is.weighted)
+
 pub length-capacities_of : (network : FlowNetwork) → IsLayout network → length (capacities_of network) ≡ length (arcs_of network)
 length-capacities_of network is =
     let priced = map (capacity_at_price (unpriced_capacity network)) network.prices in
@@ -102,6 +105,9 @@ capacity_of_reading network arc after =
     let at = capacity_at_price (unpriced_capacity network) in
     get_or-append_right (map at network.prices) (twice network.weights) (length network.prices) arc 0 (length-map network.prices at) after
     ∙ twice_at network.weights (arc - length network.prices) 0
+
+pub reading_capacity : (network : FlowNetwork) (arc : ℕ) → IsLayout network → length network.prices ≤ arc → capacity_numbered network arc ≡ get_or network.weights ((arc - length network.prices) / 2) 0
+reading_capacity network arc is after = capacity_of_reading network arc after
 
 -- ---- flows
 
