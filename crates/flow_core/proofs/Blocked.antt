@@ -56,7 +56,7 @@ bare_among : (problem : Problem) (net : NetworkState) → net.network ≡ networ
 bare_among problem net same number =
     let network = network_of problem in
     let bare : arc_at (bare_arcs net) number ≡ cond (not (is_back number) && is_unpriced network (number / 2)) (both_ways network.bounds number) None =
-        there_at (is_bare net) net.network.bounds number ∙ (λ i. cond (not (is_back number) && is_unpriced (same i) (number / 2)) (both_ways (same i).bounds number) None) in
+    there_at (is_bare net) net.network.bounds number ∙ (λ i. cond (not (is_back number) && is_unpriced (same i) (number / 2)) (both_ways (same i).bounds number) None) in
     subst (λ (o : Option Arc). IfSome o (λ arc. arc_at (unpriced_arcs problem.places problem.bounds) (number / 2) ≡ Some arc)) (sym bare)
     (among_by_test problem number (not (is_back number) && is_unpriced network (number / 2)) refl)
 

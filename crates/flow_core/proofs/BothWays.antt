@@ -38,7 +38,7 @@ one_more before arcs i table new below so_far added =
     let arc = get_or arcs i no_arc in
     let pair = arc ∷ (reversed arc ∷ []) in
     let longer : with_reverses (take (i + 1) arcs) ≡ with_reverses (take i arcs) ++ pair =
-        ap with_reverses (take_more arcs i no_arc below) ∙ with_reverses-append (take i arcs) (arc ∷ []) in
+    ap with_reverses (take_more arcs i no_arc below) ∙ with_reverses-append (take i arcs) (arc ∷ []) in
     added ∙ ap (λ (l : List Arc). l ++ pair) so_far ∙ append_assoc before (with_reverses (take i arcs)) pair ∙ ap (λ (l : List Arc). before ++ l) (sym longer)
 
 readings-append : (node : ℕ) (values : List ℤ) (value : ℤ) → reading_arcs node (values ++ value ∷ []) ≡ reading_arcs node values ++ reading_arcs (node + length values) (value ∷ [])
@@ -59,7 +59,7 @@ one_reading_more before values i table middle new there back below so_far first 
     let node : 1 + length (take i values) ≡ i + 1 = omega (arith, length-take-le i values (omega arith)) in
     let both : reading_arcs (i + 1) (value ∷ []) ≡ there ∷ (back ∷ []) = λ j. sym there_is j ∷ (sym back_is j ∷ []) in
     let longer : reading_arcs 1 (take (i + 1) values) ≡ arcs ++ there ∷ (back ∷ []) =
-        ap (reading_arcs 1) (take_more values i (pos 0) below) ∙ readings-append 1 (take i values) value ∙ ap (λ n. arcs ++ reading_arcs n (value ∷ [])) node ∙ ap (λ (l : List Arc). arcs ++ l) both in
+    ap (reading_arcs 1) (take_more values i (pos 0) below) ∙ readings-append 1 (take i values) value ∙ ap (λ n. arcs ++ reading_arcs n (value ∷ [])) node ∙ ap (λ (l : List Arc). arcs ++ l) both in
     let pairs = there ∷ (reversed there ∷ (back ∷ (reversed back ∷ []))) in
     second ∙ ap (λ (l : List Arc). l ++ back ∷ (reversed back ∷ [])) (first ∙ ap (λ (l : List Arc). l ++ there ∷ (reversed there ∷ [])) so_far)
     ∙ append_assoc (before ++ with_reverses arcs) (there ∷ (reversed there ∷ [])) (back ∷ (reversed back ∷ []))

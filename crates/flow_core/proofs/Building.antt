@@ -136,8 +136,7 @@ has_unpriced places bounds prices values weights first second limit tail head lo
     let leaves : node_of places priced.bound.first ≡ tail = ap (node_of places) is.1 ∙ out in
     let enters : node_of places priced.bound.second ≡ head = ap (node_of places) is.2 ∙ into in
     let costs : priced.bound.limit ≡ limit = is.3 in
-    let arc : arc_of_bound places priced.bound ≡ record { tail = tail; head = head; cost = limit } = λ i. record { tail = leaves i; head = enters i; cost = costs i } in
-    (
+    let arc : arc_of_bound places priced.bound ≡ record { tail = tail; head = head; cost = limit } = λ i. record { tail = leaves i; head = enters i; cost = costs i } in (
       has.0,
       omega (arith, at.below, length-map bounds (arc_of_bound places)),
       get_or-map (arc_of_bound places) bounds has.0 priced.bound no_arc at.below ∙ ap (arc_of_bound places) at.bound ∙ arc,

@@ -102,9 +102,9 @@ pulls_are problem flows excesses sound ends long excess none =
     let pulled_here = pull_by_arcs problem.places (get_or problem.places r no_place) r sound.distinct at problem.bounds amounts ends in
     let units : List Arc → List ℤ = map (unit_balance (suc r)) in
     let parts : balance (arcs_of network) flows (suc r) ≡ balance bounds amounts (suc r) +ℤ balance (reading_arcs 1 problem.values) rest (suc r) =
-        ap (inner_product flows) (map-append (unit_balance (suc r)) bounds (reading_arcs 1 problem.values))
-        ∙ inner_product-append flows (units bounds) (units (reading_arcs 1 problem.values))
-        ∙ (λ i. inner_product (take (length-map bounds (unit_balance (suc r)) i) flows) (units bounds) +ℤ inner_product (drop (length-map bounds (unit_balance (suc r)) i) flows) (units (reading_arcs 1 problem.values))) in
+    ap (inner_product flows) (map-append (unit_balance (suc r)) bounds (reading_arcs 1 problem.values))
+    ∙ inner_product-append flows (units bounds) (units (reading_arcs 1 problem.values))
+    ∙ (λ i. inner_product (take (length-map bounds (unit_balance (suc r)) i) flows) (units bounds) +ℤ inner_product (drop (length-map bounds (unit_balance (suc r)) i) flows) (units (reading_arcs 1 problem.values))) in
     let into = balance_of_reading 1 problem.values rest r (omega arith) count one in
     let same : 1 + r ≡ suc r = omega arith in
     let in_here : balance (reading_arcs 1 problem.values) rest (suc r) ≡ get_or (inflow rest) r (pos 0) = ap (λ n. balance (reading_arcs 1 problem.values) rest n) (sym same) ∙ into in
@@ -173,13 +173,13 @@ dual problem net is balanced =
     let within = subst (λ (n : FlowNetwork). AllZip IsWithin (capacities_of n) net.flows) same is.network.flows in
     let priced : length network.prices ≡ length network.bounds = subst (λ (n : FlowNetwork). length n.prices ≡ length n.bounds) same is.network.layout.priced in
     let excess : (node : ℕ) → node < nodes_of network → value_of net.excesses node ≡ balance (arcs_of network) net.flows node =
-        subst (λ (n : FlowNetwork). (node : ℕ) → node < nodes_of n → value_of net.excesses node ≡ balance (arcs_of n) net.flows node) same is.network.excesses in
+    subst (λ (n : FlowNetwork). (node : ℕ) → node < nodes_of n → value_of net.excesses node ≡ balance (arcs_of n) net.flows node) same is.network.excesses in
     let none : (reading : ℕ) → reading < length problem.values → value_of net.excesses (suc reading) ≡ pos 0 = subst (λ (n : FlowNetwork). (reading : ℕ) → reading < length n.values → value_of net.excesses (suc reading) ≡ pos 0) same balanced in
     let parts = split problem net.flows priced long within in
     let pulls = pulls_are problem net.flows net.excesses sound is.ends long (λ r below. excess (suc r) (omega arith)) none in
     let readings = reading_arcs 1 problem.values in
     let at_reading : (r : ℕ) → r < length problem.places → pull problem.bounds amounts (get_or problem.places r no_place) ≡ get_or (inflow rest) r (pos 0) =
-        λ r below. sym (get_or-map (pull problem.bounds amounts) problem.places r no_place (pos 0) below) ∙ ap (λ (ps : List ℤ). get_or ps r (pos 0)) pulls in
+    λ r below. sym (get_or-map (pull problem.bounds amounts) problem.places r no_place (pos 0) below) ∙ ap (λ (ps : List ℤ). get_or ps r (pos 0)) pulls in
     let valued = sound.valued in
     let weighted = sound.weighted in
     record {
@@ -196,9 +196,9 @@ dual problem net is balanced =
           let costs : List Arc → List ℤ = map (λ arc. arc.cost) in
           let long_costs = length-map network.bounds (λ (arc : Arc). arc.cost) in
           let both : inner_product net.flows (costs (arcs_of network)) ≡ inner_product amounts (costs network.bounds) +ℤ inner_product rest (costs readings) =
-              ap (inner_product net.flows) (map-append (λ (arc : Arc). arc.cost) network.bounds readings)
-              ∙ inner_product-append net.flows (costs network.bounds) (costs readings)
-              ∙ (λ i. inner_product (take (long_costs i) net.flows) (costs network.bounds) +ℤ inner_product (drop (long_costs i) net.flows) (costs readings)) in
+          ap (inner_product net.flows) (map-append (λ (arc : Arc). arc.cost) network.bounds readings)
+          ∙ inner_product-append net.flows (costs network.bounds) (costs readings)
+          ∙ (λ i. inner_product (take (long_costs i) net.flows) (costs network.bounds) +ℤ inner_product (drop (long_costs i) net.flows) (costs readings)) in
           let limits = ap (inner_product amounts) (costs_are_limits problem.places problem.bounds) in
           let change = cost_of_inflow 1 problem.values rest parts.count in
           let values = ap (inner_product problem.values) pulls in
@@ -207,8 +207,7 @@ dual problem net is balanced =
 
 pub admissible : BalancedIsAdmissible
 admissible problem net is balanced =
-    let all = dual problem net is balanced in
-    (
+    let all = dual problem net is balanced in (
       subst (λ (n : FlowNetwork). IsAdmissible problem (take (length n.bounds) net.flows)) (sym is.same) all.admissible,
       (λ i. pos 0 -ℤ inner_product net.flows (map (λ arc. arc.cost) (arcs_of (is.same i)))) ∙ all.value_is ∙ ap (λ (n : FlowNetwork). dual_value problem (take (length n.bounds) net.flows)) (sym is.same),
     )

@@ -3,6 +3,7 @@ pub mod BothWays
 pub mod Building
 pub mod Duals
 pub mod Elements
+pub mod Examples
 pub mod Optimality
 pub mod Pushing
 pub mod Readings

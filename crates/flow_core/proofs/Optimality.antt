@@ -159,7 +159,7 @@ bound_is_paid problem flows series k whole is tight below =
     let network = network_of problem in
     let priced = get_or problem.bounds k no_bound in
     let bounds_long : length network.bounds ≡ length problem.bounds =
-        length-map (map (λ (p : Priced). p.bound) problem.bounds) (arc_of_bound problem.places) ∙ length-map problem.bounds (λ (p : Priced). p.bound) in
+    length-map (map (λ (p : Priced). p.bound) problem.bounds) (arc_of_bound problem.places) ∙ length-map problem.bounds (λ (p : Priced). p.bound) in
     let prices_long : length network.prices ≡ length problem.bounds = length-map problem.bounds (λ (p : Priced). p.price) in
     let inside : k < length (arcs_of network) = omega (arith, length-arcs_of network) in
     let amount = get_or (take (length network.bounds) flows) k (pos 0) in
@@ -169,14 +169,14 @@ bound_is_paid problem flows series k whole is tight below =
     let risen = gain_by_arc problem series priced.bound whole in
     let at = bound_at problem k below in
     let capacity : capacity_numbered network k ≡ capacity_at_price (unpriced_capacity network) priced.price =
-        capacity_of_bound network k (omega arith) ∙ ap (capacity_at_price (unpriced_capacity network)) (price_at problem k 1 below) in
+    capacity_of_bound network k (omega arith) ∙ ap (capacity_at_price (unpriced_capacity network)) (price_at problem k 1 below) in
     let carry = zip_at CanCarry problem.bounds (take (length network.bounds) flows) k no_bound (pos 0) is.admissible.amounts below in
     let respected : RespectsArc (pos 0 ∷ series) (arc_numbered network k) → gain ≤ℤ pos 0 = λ respects.
-        let here = subst (λ (a : Arc). RespectsArc (pos 0 ∷ series) a) at respects in
-        omega (arith, ints, here, risen) in
+    let here = subst (λ (a : Arc). RespectsArc (pos 0 ∷ series) a) at respects in
+    omega (arith, ints, here, risen) in
     let turned : RespectsArc (pos 0 ∷ series) (reversed (arc_numbered network k)) → pos 0 ≤ℤ gain = λ respects.
-        let here = subst (λ (a : Arc). RespectsArc (pos 0 ∷ series) (reversed a)) at respects in
-        omega (arith, ints, here, risen) in
+    let here = subst (λ (a : Arc). RespectsArc (pos 0 ∷ series) (reversed a)) at respects in
+    omega (arith, ints, here, risen) in
     paid_on_one amount gain priced.price carry.0 carry.1
     (λ free. respected (tight.free k inside (eq-eqb (get_or network.prices k 1) 0 (price_at problem k 1 below ∙ free))))
     (λ some room.
@@ -203,7 +203,7 @@ reading_is_changed problem flows series r whole is tight valued full below =
     let to_below : to < length (arcs_of network) = omega arith in
     let from_below : from < length (arcs_of network) = omega arith in
     let prices_long : length network.prices ≡ m = length-map problem.bounds (λ (p : Priced). p.price)
-        ∙ sym (length-map (map (λ (p : Priced). p.bound) problem.bounds) (arc_of_bound problem.places) ∙ length-map problem.bounds (λ (p : Priced). p.bound)) in
+    ∙ sym (length-map (map (λ (p : Priced). p.bound) problem.bounds) (arc_of_bound problem.places) ∙ length-map problem.bounds (λ (p : Priced). p.bound)) in
     let to_arc : arc_numbered network to ≡ arc_to (1 + r) value = get_or-append-add network.bounds (reading_arcs 1 problem.values) (2 * r) no_arc ∙ arc_to_at 1 problem.values r (omega arith) in
     let from_arc : arc_numbered network from ≡ arc_from (1 + r) value = get_or-append-add network.bounds (reading_arcs 1 problem.values) (2 * r + 1) no_arc ∙ arc_from_at 1 problem.values r (omega arith) in
     let half_to : (to - length network.prices) / 2 ≡ r = omega (arith, prices_long) in
@@ -230,7 +230,7 @@ cost_is problem flows series sound whole long is tight =
     let amounts = take (length network.bounds) flows in
     let rest = reading_flows network flows in
     let bounds_long : length network.bounds ≡ length problem.bounds =
-        length-map (map (λ (p : Priced). p.bound) problem.bounds) (arc_of_bound problem.places) ∙ length-map problem.bounds (λ (p : Priced). p.bound) in
+    length-map (map (λ (p : Priced). p.bound) problem.bounds) (arc_of_bound problem.places) ∙ length-map problem.bounds (λ (p : Priced). p.bound) in
     let amounts_long : length amounts ≡ length problem.bounds = omega (arith, length-take (length network.bounds) flows, length-arcs_of network) in
     let valued = sound.valued in
     let weighted = sound.weighted in
@@ -287,15 +287,15 @@ solved problem net is solves =
     let whole : IsSeries problem series = omega (arith, ap (λ (ps : List ℤ). length ps) potentials) in
     let tight_net = are_tight net solves.obeyed in
     let tight : TightSeries problem net.flows series =
-        subst (λ (n : FlowNetwork). AreTight (record { network = n; flows = net.flows; excesses = []; potentials = pos 0 ∷ series; changes = 0 })) is.same
-        (subst (λ (ps : List ℤ). AreTight (record { network = net.network; flows = net.flows; excesses = []; potentials = ps; changes = 0 })) potentials
-        (record { free = tight_net.free; more = tight_net.more; back = tight_net.back })) in
+    subst (λ (n : FlowNetwork). AreTight (record { network = n; flows = net.flows; excesses = []; potentials = pos 0 ∷ series; changes = 0 })) is.same
+    (subst (λ (ps : List ℤ). AreTight (record { network = net.network; flows = net.flows; excesses = []; potentials = ps; changes = 0 })) potentials
+    (record { free = tight_net.free; more = tight_net.more; back = tight_net.back })) in
     let obeys : Obeys problem.places series problem.bounds = (obeys_is_respects problem.places series problem.bounds whole).1
-        (λ k. respects_if_free problem net.flows series k (arc_at (unpriced_arcs problem.places problem.bounds) k) tight (free_bound problem.places problem.bounds k)) in
+    (λ k. respects_if_free problem net.flows series k (arc_at (unpriced_arcs problem.places problem.bounds) k) tight (free_bound problem.places problem.bounds k)) in
     let long : length net.flows ≡ length (arcs_of (network_of problem)) = length-flows net is.network ∙ ap (λ (n : FlowNetwork). length (arcs_of n)) is.same in
     let equal = cost_is problem net.flows series sound whole long all tight in
     let amounts : take (length (network_of problem).bounds) net.flows ≡ bound_flows net = λ i. take (length (sym is.same i).bounds) net.flows in
     let best : IsBest problem series (take (length (network_of problem).bounds) net.flows) = record { sound = sound; whole = whole; obeys = obeys; admissible = all.admissible; equal = equal } in
     let valued_is : value net ≡ dual_value problem (take (length (network_of problem).bounds) net.flows) =
-        (λ i. pos 0 -ℤ inner_product net.flows (map (λ arc. arc.cost) (arcs_of (is.same i)))) ∙ all.value_is in
+    (λ i. pos 0 -ℤ inner_product net.flows (map (λ arc. arc.cost) (arcs_of (is.same i)))) ∙ all.value_is in
     (subst (IsBest problem series) amounts best, valued_is ∙ equal)

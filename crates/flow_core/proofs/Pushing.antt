@@ -181,7 +181,7 @@ pub written_is_raised : (net : NetworkState) (arc : ℕ) (ends : Arc) (rise : �
     → record net { flows = flows; excesses = excesses; changes = changes } ≡ raised net arc rise
 written_is_raised net arc ends rise flows taken excesses changes written =
     let excesses_is : excesses ≡ added (added net.excesses (arc_numbered net.network arc).tail (pos 0 -ℤ rise)) (arc_numbered net.network arc).head rise =
-        written.excesses_are ∙ (λ i. added (written.taken_are i) ends.head rise) ∙ (λ i. added (added net.excesses (written.ends_are i).tail (pos 0 -ℤ rise)) (written.ends_are i).head rise) in
+    written.excesses_are ∙ (λ i. added (written.taken_are i) ends.head rise) ∙ (λ i. added (added net.excesses (written.ends_are i).tail (pos 0 -ℤ rise)) (written.ends_are i).head rise) in
     λ i. record { network = net.network; flows = written.flows_are i; excesses = excesses_is i; potentials = net.potentials; changes = written.changes_are i }
 
 pub written_stored : (graph : Digraph) (capacity : ℤ) (net : NetworkState) (arc : ℕ) (ends : Arc) (rise : ℤ) (flows taken excesses : List ℤ) (changes : ℕ) → IsStored graph capacity net → IsReady net arc ends rise → IsWritten net arc ends rise flows taken excesses changes

@@ -110,7 +110,7 @@ balance_of_reading node (value ∷ values) (f ∷ (g ∷ fs)) (suc r) some e bel
     let apart : eqb node (node + suc r) ≡ false = ne_eqb node (node + suc r) (λ same. omega arith) in
     let next : suc node + r ≡ node + suc r = omega arith in
     let rest : balance (reading_arcs (suc node) values) fs (node + suc r) ≡ get_or (inflow fs) r (pos 0) =
-        ap (λ n. balance (reading_arcs (suc node) values) fs n) (sym next) ∙ balance_of_reading (suc node) values fs r (omega arith) (omega arith) (omega arith) in
+    ap (λ n. balance (reading_arcs (suc node) values) fs n) (sym next) ∙ balance_of_reading (suc node) values fs r (omega arith) (omega arith) (omega arith) in
     omega (arith, ints, pair_balance f g node (node + suc r) value false apart (omega arith), *ℤ-zero (f -ℤ g), rest)
 
 -- what the flows on the arcs of readings cost: the value times the inflow

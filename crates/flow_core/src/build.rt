@@ -58,8 +58,22 @@ fn push_readings(table: &mut ArcTable, values: &[i64]) -> Result<(), AllocError>
 {
     for (reading, value) in values.iter().enumerate() {
         let node = reading as u32 + 1;
-        push_both_ways(table, Arc { tail: 0, head: node, cost: *value })?;
-        push_both_ways(table, Arc { tail: node, head: 0, cost: 0 - *value })?;
+        push_both_ways(
+            table,
+            Arc {
+                tail: 0,
+                head: node,
+                cost: *value,
+            },
+        )?;
+        push_both_ways(
+            table,
+            Arc {
+                tail: node,
+                head: 0,
+                cost: 0 - *value,
+            },
+        )?;
     }
     Ok(())
 }

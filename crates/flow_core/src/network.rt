@@ -82,10 +82,10 @@ impl Network {
         requires prices { AllByRecursion (λ price. price ≤ MOST_PRICE) prices.now }
         requires limits { AllByRecursion (λ bound. unsigned_abs bound.limit ≤ 4 * 10 ^ 15) bounds.now }
         ensures { IfOk result (λ net. net ≡ new_state (network_of (record {
-            places = places.now;
-            values = values.now;
-            weights = weights.now;
-            bounds = with_prices bounds.now prices.now
+          places = places.now;
+          values = values.now;
+          weights = weights.now;
+          bounds = with_prices bounds.now prices.now;
         }))) }
     {
         let nodes = places.len() + 1;

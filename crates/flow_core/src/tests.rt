@@ -15,8 +15,11 @@ use std::test::Fail;
 const RANGE: i64 = 1_000_000_000_000_000;
 
 const FIRST: Place = Place { row: 1, col: 2 };
+
 const SECOND: Place = Place { row: 2, col: 2 };
+
 const THIRD: Place = Place { row: 3, col: 2 };
+
 const FOURTH: Place = Place { row: 4, col: 2 };
 
 /// A bound between these ends.
@@ -83,6 +86,37 @@ fn four_readings(alloc: Global, weight: u32, price: u32) -> Result<Network, Allo
     Network::new(alloc, &values, &weights, &prices, &bounds, &places)
 }
 
+/// A network has as many nodes, arcs and bounds.
+fn sizes_are(rt: &impl Abort, net: &Network, nodes: u32, arcs: u32, bounds: u32) {
+    assert_eq!(rt; net.nodes(), nodes);
+    assert_eq!(rt; net.arcs(), arcs);
+    assert_eq!(rt; net.bounds(), bounds);
+}
+
+/// The arcs of these numbers are these.
+fn arcs_are(rt: &impl Abort, net: &Network, arcs: &[(u32, Arc)]) {
+    for (number, arc) in arcs {
+        assert!(rt; *number < net.arcs());
+        assert_eq!(rt; net.arc(*number), *arc);
+    }
+}
+
+/// The numbers of the arcs and reverses that leave a node are these.
+fn leaving_are(rt: &impl Abort, net: &Network, node: u32, numbers: &[u32]) {
+    assert!(rt; node < net.nodes());
+    assert_eq!(rt; net.out_arcs(node), numbers);
+}
+
+/// What flows on the arcs of these numbers, and how much more can.
+fn flows_are(rt: &impl Abort, net: &Network, flows: &[(u32, i64, i64)]) {
+    for (arc, flow, residual) in flows {
+        assert!(rt; *arc < net.arcs());
+        assert_eq!(rt; net.flow(*arc), *flow);
+        assert_eq!(rt; net.residual(*arc, true), *flow);
+        assert_eq!(rt; net.residual(*arc, false), *residual);
+    }
+}
+
 /// Pushes an amount, if there is an arc of this number with room for it.
 fn push(rt: &impl Abort, net: &mut Network, arc: u32, back: bool, amount: i64) {
     assert!(rt; arc < net.arcs());
@@ -99,10 +133,13 @@ fn excesses_are(rt: &impl Abort, net: &Network, excesses: &[i64]) {
     }
 }
 
-/// The numbers of the arcs and reverses that leave a node are these.
-fn leaving_are(rt: &impl Abort, net: &Network, node: u32, numbers: &[u32]) {
-    assert!(rt; node < net.nodes());
-    assert_eq!(rt; net.out_arcs(node), numbers);
+/// The arcs and reverses of these numbers are residual, tight and bare, or are not.
+fn views_are(rt: &impl Abort, net: &Network, views: &[(u32, bool, bool, bool)]) {
+    for (number, residual, tight, bare) in views {
+        assert_eq!(rt; net.residual_arcs().arc(*number).is_some(), *residual);
+        assert_eq!(rt; net.tight_arcs().arc(*number).is_some(), *tight);
+        assert_eq!(rt; net.bound_arcs().arc(*number).is_some(), *bare);
+    }
 }
 
 #[test]
@@ -111,10 +148,10 @@ fn a_network_of_nothing(rt: HostRuntime) -> Result<(), Fail> {
     let bounds = BoundList::new(rt.alloc());
     let places = Places::new(rt.alloc());
     let net = Network::new(rt.alloc(), &values, &[], &[], &bounds, &places)?;
-    assert_eq!(rt; (net.nodes(), net.arcs(), net.bounds()), (1, 0, 0));
-    assert_eq!(rt; net.value(), 0);
-    assert_eq!(rt; net.changes(), 0);
+    sizes_are(&rt, &net, 1, 0, 0);
     leaving_are(&rt, &net, 0, &[]);
+    views_are(&rt, &net, &[(0, false, false, false)]);
+    assert_eq!(rt; net.value(), 0);
     pull_is_balance();
     balanced_everywhere();
     balanced_is_admissible();
@@ -124,12 +161,52 @@ fn a_network_of_nothing(rt: HostRuntime) -> Result<(), Fail> {
 }
 
 #[test]
+fn one_reading_pays_a_price(rt: HostRuntime) -> Result<(), Fail> {
+    let mut net = one_reading(rt.alloc(), 5, 3)?;
+    sizes_are(&rt, &net, 2, 5, 3);
+    leaving_are(&rt, &net, 1, &[1, 2, 5, 7, 8]);
+    // The most that is paid for the 20 above the limit, since moving the reading costs 5 for each.
+    push(&rt, &mut net, 2, false, 3);
+    push(&rt, &mut net, 4, false, 3);
+    excesses_are(&rt, &net, &[0, 0]);
+    flows_are(&rt, &net, &[(0, 0, 9), (2, 3, 0), (3, 0, 5), (4, 3, 2)]);
+    assert_eq!(rt; net.value(), 60);
+    views_are(
+        &rt,
+        &net,
+        &[
+            (0, true, true, true),
+            (4, false, false, false),
+            (5, true, true, false),
+        ],
+    );
+    Ok(())
+}
+
+#[test]
 fn a_flow_pushed_by_hand(rt: HostRuntime) -> Result<(), Fail> {
     let mut net = four_readings(rt.alloc(), 1, 0)?;
-    assert_eq!(rt; (net.nodes(), net.arcs(), net.bounds()), (5, 18, 10));
-    assert_eq!(rt; net.arc(8), Arc { tail: 2, head: 3, cost: 1 });
-    assert_eq!(rt; net.arc(12), Arc { tail: 0, head: 2, cost: 11 });
-    assert_eq!(rt; net.arc(15), Arc { tail: 3, head: 0, cost: -20 });
+    sizes_are(&rt, &net, 5, 18, 10);
+    let bound = Arc {
+        tail: 2,
+        head: 3,
+        cost: 1,
+    };
+    let into_second = Arc {
+        tail: 0,
+        head: 2,
+        cost: 11,
+    };
+    let out_of_third = Arc {
+        tail: 3,
+        head: 0,
+        cost: -20,
+    };
+    arcs_are(
+        &rt,
+        &net,
+        &[(8, bound), (12, into_second), (15, out_of_third)],
+    );
     leaving_are(&rt, &net, 3, &[9, 10, 17, 18, 29, 30]);
     push(&rt, &mut net, 12, false, 1);
     excesses_are(&rt, &net, &[-1, 0, 1, 0, 0]);
@@ -139,14 +216,27 @@ fn a_flow_pushed_by_hand(rt: HostRuntime) -> Result<(), Fail> {
     assert_eq!(rt; net.value(), 8);
     assert_eq!(rt; net.changes(), 3);
     // The bound from the second reading to the third one has room left, and the reading's own arc has none.
-    assert!(rt; net.residual_arcs().arc(16).is_some() && net.residual_arcs().arc(17).is_some());
-    assert_eq!(rt; net.residual_arcs().arc(24), None);
-    assert_eq!(rt; net.tight_arcs().arc(24), None);
-    assert_eq!(rt; net.residual_arcs().arc(25), Some(Arc { tail: 2, head: 0, cost: -11 }));
-    assert_eq!(rt; net.bound_arcs().arc(16), Some(Arc { tail: 2, head: 3, cost: 1 }));
-    assert_eq!(rt; net.bound_arcs().arc(17), None);
-    assert_eq!(rt; net.bound_arcs().arc(24), None);
-    assert_eq!(rt; (net.tight_arcs().arcs(), net.bound_arcs().arcs()), (36, 20));
+    views_are(
+        &rt,
+        &net,
+        &[
+            (16, true, true, true),
+            (17, true, true, false),
+            (24, false, false, false),
+            (25, true, true, false),
+            (36, false, false, false),
+        ],
+    );
+    assert_eq!(rt;
+        net.residual_arcs().arc(25),
+        Some(Arc {
+            tail: 2,
+            head: 0,
+            cost: -11
+        })
+    );
+    assert_eq!(rt; net.tight_arcs().arc(16), Some(bound));
+    assert_eq!(rt; net.bound_arcs().arc(16), Some(bound));
     push(&rt, &mut net, 15, true, 1);
     excesses_are(&rt, &net, &[-1, 0, 0, 1, 0]);
     assert_eq!(rt; net.value(), -12);
@@ -154,42 +244,36 @@ fn a_flow_pushed_by_hand(rt: HostRuntime) -> Result<(), Fail> {
 }
 
 #[test]
-fn one_reading_pays_a_price(rt: HostRuntime) -> Result<(), Fail> {
-    let mut net = one_reading(rt.alloc(), 5, 3)?;
-    assert_eq!(rt; (net.nodes(), net.arcs(), net.bounds()), (2, 5, 3));
-    leaving_are(&rt, &net, 1, &[1, 2, 5, 7, 8]);
-    // The most that is paid for the 20 above the limit, since moving the reading costs 5 for each.
-    push(&rt, &mut net, 2, false, 3);
-    push(&rt, &mut net, 4, false, 3);
-    excesses_are(&rt, &net, &[0, 0]);
-    assert_eq!(rt; net.value(), 60);
-    assert_eq!(rt; net.tight_arcs().arc(4), None);
-    assert_eq!(rt; net.tight_arcs().arc(5), Some(Arc { tail: 1, head: 0, cost: -50 }));
-    Ok(())
-}
-
-#[test]
 fn prices_between_readings(rt: HostRuntime) -> Result<(), Fail> {
     let mut net = four_readings(rt.alloc(), 1_000, 7)?;
     // No price: all weights, all prices and 1 more.
-    assert_eq!(rt; net.residual(0, false), 4_015);
-    assert_eq!(rt; net.residual(8, false), 7);
-    assert_eq!(rt; net.residual(10, false), 1_000);
-    assert!(rt; net.tight_arcs().arc(16).is_some());
+    flows_are(&rt, &net, &[(0, 0, 4_015), (8, 0, 7), (10, 0, 1_000)]);
+    views_are(
+        &rt,
+        &net,
+        &[(16, true, true, false), (17, false, false, false)],
+    );
     push(&rt, &mut net, 12, false, 7);
     push(&rt, &mut net, 8, false, 7);
     push(&rt, &mut net, 15, false, 7);
     excesses_are(&rt, &net, &[0, 0, 0, 0, 0]);
     assert_eq!(rt; net.value(), 56);
-    assert_eq!(rt; net.tight_arcs().arc(16), None);
-    assert_eq!(rt; net.bound_arcs().arc(16), None);
-    assert_eq!(rt; net.tight_arcs().arc(17), Some(Arc { tail: 3, head: 2, cost: -1 }));
+    views_are(
+        &rt,
+        &net,
+        &[(16, false, false, false), (17, true, true, false)],
+    );
     push(&rt, &mut net, 0, false, 4_015);
-    assert_eq!(rt; net.residual_arcs().arc(0), None);
-    assert!(rt; net.tight_arcs().arc(0).is_some());
-    assert_eq!(rt; net.flow(0), 4_015);
-    assert_eq!(rt; net.potential(4), 0);
-    net.set_potential(4, -5);
-    assert_eq!(rt; (net.potential(4), net.potential(3)), (-5, 0));
+    views_are(&rt, &net, &[(0, false, true, true), (1, true, true, false)]);
+    potential_moves(&rt, &mut net, 4, -5);
     Ok(())
+}
+
+/// A potential is 0, and another one after it was set.
+fn potential_moves(rt: &impl Abort, net: &mut Network, node: u32, value: i64) {
+    assert!(rt; 0 < node && node < net.nodes());
+    assert!(rt; -100 <= value && value <= 100);
+    assert_eq!(rt; net.potential(node), 0);
+    net.set_potential(node, value);
+    assert_eq!(rt; net.potential(node), value);
 }

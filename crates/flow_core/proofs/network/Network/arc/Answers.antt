@@ -17,13 +17,13 @@ pub unwrap-requires : goal.unwrap-requires
 unwrap-requires c =
     let graph = c.self.invariant.arcs ∙ ap (λ (net : NetworkState). with_reverses (arcs_of net.network)) c.self.view_is in
     let found : c.arc.result ≡ Some (arc_numbered c.args.self.now.network c.args.arc) =
-        c.arc.ensures.found ∙ ap (λ (arcs : List Arc). arc_at (map Some arcs) (2 * c.args.arc)) graph ∙ arc_there (arcs_of c.args.self.now.network) c.args.arc c.requires in
+    c.arc.ensures.found ∙ ap (λ (arcs : List Arc). arc_at (map Some arcs) (2 * c.args.arc)) graph ∙ arc_there (arcs_of c.args.self.now.network) c.args.arc c.requires in
     rw found (search rules)
 
 pub returns : goal.returns
 returns c =
     let graph = c.self.invariant.arcs ∙ ap (λ (net : NetworkState). with_reverses (arcs_of net.network)) c.self.view_is in
     let found : c.arc.result ≡ Some (arc_numbered c.args.self.now.network c.args.arc) =
-        c.arc.ensures.found ∙ ap (λ (arcs : List Arc). arc_at (map Some arcs) (2 * c.args.arc)) graph ∙ arc_there (arcs_of c.args.self.now.network) c.args.arc c.requires in
+    c.arc.ensures.found ∙ ap (λ (arcs : List Arc). arc_at (map Some arcs) (2 * c.args.arc)) graph ∙ arc_there (arcs_of c.args.self.now.network) c.args.arc c.requires in
     let read = c.unwrap.ensures in
     cc

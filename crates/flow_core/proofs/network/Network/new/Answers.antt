@@ -47,7 +47,7 @@ invariant_of-result c =
     let nodes : c.len-nodes.result + 1 ≡ nodes_of network = omega (arith, c.len-nodes.ensures, c.requires.valued) in
     let arcs = c.in_ok-arcs.ensures ∙ ap (λ (values : List ℤ). with_reverses (arcs_of_bounds c.args.places.now c.args.bounds.now ++ reading_arcs 1 values)) c.as_slice.ensures in
     let count : c.len.result + 2 * c.len-2.result ≡ length (arcs_of network) =
-        omega (arith, c.len.ensures, c.len-2.ensures, c.requires.valued, length-arcs_of network, length-map c.args.bounds.now (arc_of_bound c.args.places.now)) in
+    omega (arith, c.len.ensures, c.len-2.ensures, c.requires.valued, length-arcs_of network, length-map c.args.bounds.now (arc_of_bound c.args.places.now)) in
     let zeroes : (n : ℕ) → List ℤ = λ n. replicate n (pos 0) in
     let flows : c.in_ok-flows.flows.items ≡ zeroes (c.len.result + 2 * c.len-2.result) = search rules in
     let excesses : c.in_ok-excesses.excesses.items ≡ zeroes (c.len-nodes.result + 1) = search rules in
@@ -74,7 +74,7 @@ returns c =
     let nodes : c.len-nodes.result + 1 ≡ nodes_of network = omega (arith, c.len-nodes.ensures, c.requires.valued) in
     let arcs = c.in_ok-arcs.ensures ∙ ap (λ (values : List ℤ). with_reverses (arcs_of_bounds c.args.places.now c.args.bounds.now ++ reading_arcs 1 values)) c.as_slice.ensures in
     let count : c.len.result + 2 * c.len-2.result ≡ length (arcs_of network) =
-        omega (arith, c.len.ensures, c.len-2.ensures, c.requires.valued, length-arcs_of network, length-map c.args.bounds.now (arc_of_bound c.args.places.now)) in
+    omega (arith, c.len.ensures, c.len-2.ensures, c.requires.valued, length-arcs_of network, length-map c.args.bounds.now (arc_of_bound c.args.places.now)) in
     let zeroes : (n : ℕ) → List ℤ = λ n. replicate n (pos 0) in
     let flows : c.in_ok-flows.flows.items ≡ zeroes (c.len.result + 2 * c.len-2.result) = search rules in
     let excesses : c.in_ok-excesses.excesses.items ≡ zeroes (c.len-nodes.result + 1) = search rules in

@@ -43,7 +43,7 @@ add-requires-2-clause-amount c =
     let by = rise_by c.args.back c.args.amount in
     let rise : to_z w64 (of_z w64 c.rise-rise.result) ≡ by = to_z-of_z w64 c.rise-rise.result fits ∙ c.rise-rise.ensures ∙ ap (rise_by c.args.back) (to_z-of_z w64 c.args.amount (search rules)) in
     let less : to_z w64 (of_z w64 (pos 0 -ℤ to_z w64 (of_z w64 c.rise-rise.result))) ≡ pos 0 -ℤ by =
-        ap (λ z. to_z w64 (of_z w64 (pos 0 -ℤ z))) rise ∙ to_z-of_z w64 (pos 0 -ℤ by) (fits_signed_from_abs w64 (pos 0 -ℤ by) (omega (arith, r.amount, size_of_minus by))) in
+    ap (λ z. to_z w64 (of_z w64 (pos 0 -ℤ z))) rise ∙ to_z-of_z w64 (pos 0 -ℤ by) (fits_signed_from_abs w64 (pos 0 -ℤ by) (omega (arith, r.amount, size_of_minus by))) in
     rw less (omega (arith, r.amount, size_of_minus by))
 
 pub add-requires-3-clause-place : goal.add-requires-3-clause-place
@@ -58,7 +58,7 @@ add-requires-3-clause-number c =
     let by = rise_by c.args.back c.args.amount in
     let rise : to_z w64 (of_z w64 c.rise-rise.result) ≡ by = to_z-of_z w64 c.rise-rise.result fits ∙ c.rise-rise.ensures ∙ ap (rise_by c.args.back) (to_z-of_z w64 c.args.amount (search rules)) in
     let less : to_z w64 (of_z w64 (pos 0 -ℤ to_z w64 (of_z w64 c.rise-rise.result))) ≡ pos 0 -ℤ by =
-        ap (λ z. to_z w64 (of_z w64 (pos 0 -ℤ z))) rise ∙ to_z-of_z w64 (pos 0 -ℤ by) (fits_signed_from_abs w64 (pos 0 -ℤ by) (omega (arith, r.amount, size_of_minus by))) in
+    ap (λ z. to_z w64 (of_z w64 (pos 0 -ℤ z))) rise ∙ to_z-of_z w64 (pos 0 -ℤ by) (fits_signed_from_abs w64 (pos 0 -ℤ by) (omega (arith, r.amount, size_of_minus by))) in
     rw (c.add-2.ensures, less) (omega (arith, r.excess_head))
 
 pub add-requires-3-clause-amount : goal.add-requires-3-clause-amount
@@ -75,7 +75,7 @@ invariant_of-self c =
     let by = rise_by c.args.back c.args.amount in
     let rise : to_z w64 (of_z w64 c.rise-rise.result) ≡ by = to_z-of_z w64 c.rise-rise.result fits ∙ c.rise-rise.ensures ∙ ap (rise_by c.args.back) (to_z-of_z w64 c.args.amount (search rules)) in
     let less : to_z w64 (of_z w64 (pos 0 -ℤ to_z w64 (of_z w64 c.rise-rise.result))) ≡ pos 0 -ℤ by =
-        ap (λ z. to_z w64 (of_z w64 (pos 0 -ℤ z))) rise ∙ to_z-of_z w64 (pos 0 -ℤ by) (fits_signed_from_abs w64 (pos 0 -ℤ by) (omega (arith, r.amount, size_of_minus by))) in
+    ap (λ z. to_z w64 (of_z w64 (pos 0 -ℤ z))) rise ∙ to_z-of_z w64 (pos 0 -ℤ by) (fits_signed_from_abs w64 (pos 0 -ℤ by) (omega (arith, r.amount, size_of_minus by))) in
     written_stored _ _ _ c.args.arc c.arc-ends.result by c.add.new.numbers.items c.add-2.new.numbers.items c.add-3.new.numbers.items c.saturating_add-self-inside.result c.self.invariant r
     (record {
       ends_are = c.arc-ends.ensures ∙ ap (λ (net : NetworkState). arc_numbered net.network c.args.arc) (sym c.self.view_is);
@@ -92,7 +92,7 @@ returns-clause-network c =
     let by = rise_by c.args.back c.args.amount in
     let rise : to_z w64 (of_z w64 c.rise-rise.result) ≡ by = to_z-of_z w64 c.rise-rise.result fits ∙ c.rise-rise.ensures ∙ ap (rise_by c.args.back) (to_z-of_z w64 c.args.amount (search rules)) in
     let less : to_z w64 (of_z w64 (pos 0 -ℤ to_z w64 (of_z w64 c.rise-rise.result))) ≡ pos 0 -ℤ by =
-        ap (λ z. to_z w64 (of_z w64 (pos 0 -ℤ z))) rise ∙ to_z-of_z w64 (pos 0 -ℤ by) (fits_signed_from_abs w64 (pos 0 -ℤ by) (omega (arith, r.amount, size_of_minus by))) in
+    ap (λ z. to_z w64 (of_z w64 (pos 0 -ℤ z))) rise ∙ to_z-of_z w64 (pos 0 -ℤ by) (fits_signed_from_abs w64 (pos 0 -ℤ by) (omega (arith, r.amount, size_of_minus by))) in
     (written_stored _ _ _ c.args.arc c.arc-ends.result by c.add.new.numbers.items c.add-2.new.numbers.items c.add-3.new.numbers.items c.saturating_add-self-inside.result c.self.invariant r
     (record {
       ends_are = c.arc-ends.ensures ∙ ap (λ (net : NetworkState). arc_numbered net.network c.args.arc) (sym c.self.view_is);
