@@ -1,8 +1,7 @@
 -- A negative cycle of the bare arcs is one of the bounds without a price.
-use Rattle.std.proofs.Common.{◌≡◌, ℕ, zero, suc, ◌+◌, ◌*◌, ◌/◌, ◌%◌, ◌<◌, Bool, true, false, cond, eqb, ◌&&◌, not, List, [], ◌∷◌, length, map, get_or, Option, None, Some, IfSome, refl, sym, ap, ◌∙◌, subst, arith}
-use Rattle.std.specs.Prelude.{slice_get}
+use Rattle.std.proofs.Common.{◌≡◌, ℕ, zero, suc, ◌*◌, ◌/◌, ◌%◌, ◌<◌, Bool, true, false, cond, eqb, ◌&&◌, not, List, [], ◌∷◌, length, map, get_or, Option, None, Some, IfSome, refl, sym, ap, ◌∙◌, subst, arith}
 use Rattle.std.proofs.lemmas.Bool.{eqb-true, eqb-false, eq-eqb, cond-true}
-use Rattle.std.proofs.lemmas.List.{length-map, get_or-map}
+use Rattle.std.proofs.lemmas.List.{length-map}
 use Rattle.screen_model.specs.declared.place.Place.{Place}
 use Rattle.screen_model.specs.Obeys.{Priced}
 use Rattle.screen_model.specs.Cost.{Problem}
@@ -10,13 +9,12 @@ use Rattle.bound_graph.specs.declared.arc.Arc.{Arc}
 use Rattle.bound_graph.specs.Arcs.{arc_at, AreAmong}
 use Rattle.bound_graph.specs.Graph.{arc_of_bound, arcs_of_bounds}
 use Rattle.bound_graph.specs.Nodes.{unpriced_arcs}
-use Rattle.bound_graph.specs.Cycle.{IsNegativeCycle}
 use Rattle.bound_graph.proofs.Among.{cycle}
 use Rattle.bound_graph.proofs.Cycles.{blocks}
-use Rattle.flow_core.specs.Layout.{FlowNetwork, network_of, no_arc, is_unpriced}
+use Rattle.flow_core.specs.Layout.{network_of, no_arc, is_unpriced}
 use Rattle.flow_core.specs.State.{NetworkState}
-use Rattle.flow_core.specs.Views.{is_bare, there_from, bare_arcs}
-use Rattle.flow_core.specs.Laws.{IsNetworkOf, NegativeCycleIsBlocked}
+use Rattle.flow_core.specs.Views.{is_bare, bare_arcs}
+use Rattle.flow_core.specs.Laws.{NegativeCycleIsBlocked}
 use Rattle.flow_core.proofs.BothWays.{both_ways, is_back, there_at, arc_there, and_second, unpriced_below}
 
 and_first : (a b : Bool) → (a && b) ≡ true → a ≡ true

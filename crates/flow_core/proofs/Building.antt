@@ -1,5 +1,5 @@
 -- The network of a problem, as it is made.
-use Rattle.std.proofs.Common.{◌≡◌, ◌≢◌, ℕ, zero, suc, ◌+◌, ◌*◌, ◌^◌, ◌<◌, ◌≤◌, Bool, true, false, ℤ, pos, ◌-ℤ◌, ◌≤ℤ◌, List, [], ◌∷◌, ◌++◌, length, map, get_or, take, drop, replicate, refl, sym, ap, ◌∙◌, subst, arith}
+use Rattle.std.proofs.Common.{◌≡◌, ◌≢◌, ℕ, zero, suc, ◌+◌, ◌*◌, ◌^◌, ◌<◌, ◌≤◌, ℤ, pos, List, [], ◌∷◌, ◌++◌, length, map, get_or, take, drop, replicate, refl, sym, ap, ◌∙◌, subst, arith}
 use Rattle.std.specs.Prelude.{unsigned_abs, count_by, if◌then◌else◌}
 use Rattle.std.specs.List.{AllByRecursion, AllZip}
 use Rattle.std.proofs.lemmas.Int.{ints}
@@ -15,22 +15,19 @@ use Rattle.screen_model.specs.declared.place.End.TheVariants.{Zero, At}
 use Rattle.screen_model.specs.declared.bound.Bound.{Bound}
 use Rattle.screen_model.specs.Series.{is_same_place}
 use Rattle.screen_model.specs.Obeys.{Priced, HasEnds, with_prices}
-use Rattle.screen_model.specs.Cost.{Problem}
 use Rattle.screen_model.proofs.Places.{same_place, other_place}
 use Rattle.screen_model.proofs.Prices.{keep}
 use Rattle.bound_graph.specs.declared.arc.Arc.{Arc}
 use Rattle.bound_graph.specs.Arcs.{IsArc}
-use Rattle.bound_graph.specs.Graph.{Digraph, index_of, node_of, arc_of_bound, arcs_of_bounds}
-use Rattle.bound_graph.specs.Values.{value_of}
+use Rattle.bound_graph.specs.Graph.{index_of, node_of, arc_of_bound, arcs_of_bounds}
 use Rattle.bound_graph.proofs.Arcs.{arcs_of_bounds_valid}
 use Rattle.screen_model.specs.declared.limits.TheConstants.{MOST_READINGS}
 use Rattle.flow_core.specs.declared.limits.TheConstants.{MOST_BOUNDS, MOST_PRICE, MOST_WEIGHT, MOST_VALUE}
-use Rattle.flow_core.specs.Layout.{FlowNetwork, IsLayout, HasRange, HasUnpriced, HasBound, IsRanged, network_of, nodes_of, reading_arcs, arcs_of, no_arc, capacities_of, unpriced_capacity}
+use Rattle.flow_core.specs.Layout.{FlowNetwork, IsLayout, HasUnpriced, HasBound, IsRanged, network_of, nodes_of, reading_arcs, arcs_of, no_arc, capacities_of, unpriced_capacity}
 use Rattle.flow_core.specs.State.{NetworkState, IsNetwork, IsWithin, is_flowing, new_state, unit_balance}
-use Rattle.flow_core.specs.Views.{reversed, with_reverses}
+use Rattle.flow_core.specs.Views.{with_reverses}
 use Rattle.flow_core.specs.Stored.{IsStored, evens, bounds_in, values_in, network_in, state_in}
-use Rattle.flow_core.proofs.Sizes.{length-capacities_of, arcs_valid}
-use Rattle.flow_core.proofs.BothWays.{all_both_ways}
+use Rattle.flow_core.proofs.Sizes.{length-capacities_of}
 
 -- ---- a network out of its arcs with their reverses
 

@@ -1,17 +1,16 @@
 -- The flows on the bounds of a network without excesses are admissible, and their dual value is the network's value.
-use Rattle.std.proofs.Common.{◌≡◌, ◌≢◌, ℕ, zero, suc, ◌+◌, ◌*◌, ◌/◌, ◌<◌, ◌≤◌, Bool, true, false, cond, eqb, if◌then◌else◌, ℤ, pos, neg_ℤ, ◌+ℤ◌, ◌-ℤ◌, ◌*ℤ◌, ◌≤ℤ◌, List, [], ◌∷◌, ◌++◌, length, map, get_or, take, drop, Option, Some, refl, sym, ap, ◌∙◌, subst, arith}
+use Rattle.std.proofs.Common.{◌≡◌, ℕ, zero, suc, ◌+◌, ◌*◌, ◌/◌, ◌<◌, ◌≤◌, Bool, true, false, eqb, ℤ, pos, ◌+ℤ◌, ◌-ℤ◌, ◌*ℤ◌, ◌≤ℤ◌, List, [], ◌∷◌, length, map, get_or, take, drop, Some, refl, sym, ap, ◌∙◌, subst, arith}
 use Rattle.std.specs.Prelude.{unsigned_abs, Contains, slice_get}
 use Rattle.std.specs.List.{AllByRecursion, AllZip}
 use Rattle.std.proofs.lemmas.Int.{ints}
 use Rattle.std.proofs.lemmas.Bool.{eq-eqb, ne_eqb, cond-false}
-use Rattle.std.proofs.lemmas.List.{length-map, length-drop, length-append, get_or-map, get_or-drop, map-append, get_or_default, ext_get_or}
+use Rattle.std.proofs.lemmas.List.{length-map, length-drop, get_or-map, map-append, get_or_default, ext_get_or}
 use Rattle.std.proofs.Math.IntN.{*ℤ-zero}
 use Rattle.words.specs.Lists.{Distinct, inner_product}
 use Rattle.words.proofs.Products.{mul_minus}
 use Rattle.screen_model.specs.declared.place.Place.{Place}
 use Rattle.screen_model.specs.declared.place.End.{End}
 use Rattle.screen_model.specs.declared.place.End.TheVariants.{Zero, At}
-use Rattle.screen_model.specs.declared.bound.Bound.{Bound}
 use Rattle.screen_model.specs.Series.{is_same_place, IsEnd}
 use Rattle.screen_model.specs.Obeys.{Priced, HasEnds}
 use Rattle.screen_model.specs.Cost.{Problem, IsProblem}
@@ -22,7 +21,7 @@ use Rattle.bound_graph.specs.Graph.{index_of, node_of, arc_of_bound, arcs_of_bou
 use Rattle.bound_graph.specs.Values.{value_of}
 use Rattle.bound_graph.proofs.Nodes.{place_at_index, index_of_contained}
 use Rattle.flow_core.specs.Layout.{FlowNetwork, network_of, nodes_of, reading_arcs, arcs_of, twice, unpriced_capacity, capacity_at_price, capacities_of}
-use Rattle.flow_core.specs.State.{NetworkState, IsNetwork, IsWithin, one_if, unit_balance, balance, bound_flows, value}
+use Rattle.flow_core.specs.State.{NetworkState, IsWithin, one_if, unit_balance, balance}
 use Rattle.flow_core.specs.Laws.{IsNetworkOf, PullIsBalance, IsBalancedAtReadings, BalancedIsAdmissible}
 use Rattle.flow_core.proofs.Building.{index_of_place}
 use Rattle.flow_core.proofs.Sizes.{length-arcs_of, length-flows}

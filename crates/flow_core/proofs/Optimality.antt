@@ -1,10 +1,9 @@
 -- A solved network shows that a series is best.
-use Rattle.std.proofs.Common.{◌≡◌, ◌≢◌, ℕ, zero, suc, ◌+◌, ◌*◌, ◌/◌, ◌-◌, ◌<◌, ◌≤◌, Bool, true, false, cond, eqb, ◌||◌, ◌⊎◌, inl, inr, ℤ, pos, negsuc, neg_ℤ, ◌+ℤ◌, ◌-ℤ◌, ◌*ℤ◌, ◌≤ℤ◌, ◌<ℤ◌, List, [], ◌∷◌, ◌++◌, length, map, sum, get_or, take, drop, Option, None, Some, IfSome, refl, sym, ap, ◌∙◌, subst, arith}
+use Rattle.std.proofs.Common.{◌≡◌, ℕ, zero, suc, ◌+◌, ◌*◌, ◌/◌, ◌-◌, ◌<◌, Bool, true, false, cond, eqb, ◌||◌, ℤ, pos, negsuc, ◌-ℤ◌, ◌*ℤ◌, ◌≤ℤ◌, ◌<ℤ◌, List, [], ◌∷◌, length, map, sum, get_or, take, Option, None, Some, IfSome, refl, sym, ap, ◌∙◌, subst, arith}
 use Rattle.std.specs.Prelude.{unsigned_abs}
-use Rattle.std.specs.List.{AllByRecursion, AllZip}
 use Rattle.std.specs.Int.{is_positive}
 use Rattle.std.proofs.lemmas.Int.{ints, by_lt_z}
-use Rattle.std.proofs.lemmas.Bool.{eq-eqb, eqb-true, ne_eqb, cond-true, cond-false}
+use Rattle.std.proofs.lemmas.Bool.{eq-eqb, eqb-true, ne_eqb, cond-false}
 use Rattle.std.proofs.lemmas.List.{length-map, length-take, get_or-map, get_or-drop, get_or-take, get_or_append_left, get_or-append-add}
 use Rattle.std.proofs.lemmas.List.Sums.{sum_by-cons}
 use Rattle.std.proofs.Math.IntN.{*ℤ_comm, *ℤ-zero, zero-*ℤ}
@@ -24,16 +23,15 @@ use Rattle.screen_model.proofs.Pulls.{pulled_is}
 use Rattle.bound_graph.specs.declared.arc.Arc.{Arc}
 use Rattle.bound_graph.specs.Arcs.{arc_at}
 use Rattle.bound_graph.specs.Graph.{arc_of_bound, arcs_of_bounds}
-use Rattle.bound_graph.specs.Values.{value_of, RespectsArc, RespectsIfThere, RespectsArcs, relative_to_first, series_of}
+use Rattle.bound_graph.specs.Values.{value_of, RespectsArc, RespectsIfThere, RespectsArcs, series_of}
 use Rattle.bound_graph.specs.Nodes.{unpriced_arcs}
 use Rattle.bound_graph.proofs.Values.{value_at_node, obeys_is_respects, zero_and_series}
-use Rattle.flow_core.specs.Layout.{FlowNetwork, network_of, nodes_of, reading_arcs, arcs_of, arc_numbered, no_arc, twice, is_unpriced, unpriced_capacity, capacity_at_price, capacities_of, capacity_numbered}
-use Rattle.flow_core.specs.State.{NetworkState, IsNetwork, IsWithin, flow_on, residual_of, bound_flows, value}
-use Rattle.flow_core.specs.Views.{reversed, is_residual, is_bare, there_from, tight_arcs}
-use Rattle.flow_core.specs.Solving.{IsSolved}
-use Rattle.flow_core.specs.Laws.{IsNetworkOf, SolvedIsBest}
-use Rattle.flow_core.proofs.Elements.{twice_at, zip_at}
-use Rattle.flow_core.proofs.Sizes.{length-arcs_of, length-flows, capacity_of_bound, capacity_of_reading, flow_within}
+use Rattle.flow_core.specs.Layout.{FlowNetwork, network_of, reading_arcs, arcs_of, arc_numbered, no_arc, is_unpriced, unpriced_capacity, capacity_at_price, capacity_numbered}
+use Rattle.flow_core.specs.State.{NetworkState, flow_on, residual_of, bound_flows, value}
+use Rattle.flow_core.specs.Views.{reversed, is_residual, is_bare, tight_arcs}
+use Rattle.flow_core.specs.Laws.{SolvedIsBest}
+use Rattle.flow_core.proofs.Elements.{zip_at}
+use Rattle.flow_core.proofs.Sizes.{length-arcs_of, length-flows, capacity_of_bound, capacity_of_reading}
 use Rattle.flow_core.proofs.BothWays.{there_by_arc, back_by_arc}
 use Rattle.flow_core.proofs.Readings.{inflow, length-inflow, inflow_at, arc_to, arc_from, arc_to_at, arc_from_at, inflow_by_change}
 use Rattle.flow_core.proofs.Duals.{reading_flows, IsDual, dual, first_within, second_within}

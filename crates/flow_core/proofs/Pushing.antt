@@ -1,20 +1,18 @@
 -- The flow of one arc raised, and a potential set: what holds of every network still holds.
-use Rattle.std.proofs.Common.{◌≡◌, ℕ, zero, suc, ◌+◌, ◌-◌, ◌*◌, ◌^◌, ◌<◌, ◌≤◌, min, Bool, true, false, eqb, ℤ, pos, ◌+ℤ◌, ◌-ℤ◌, ◌*ℤ◌, ◌≤ℤ◌, List, [], ◌∷◌, length, map, get_or, set, refl, sym, ap, ◌∙◌, subst, arith}
-use Rattle.std.specs.Prelude.{unsigned_abs, count_by}
+use Rattle.std.proofs.Common.{◌≡◌, ℕ, zero, suc, ◌+◌, ◌-◌, ◌^◌, ◌<◌, ◌≤◌, min, Bool, true, false, eqb, ℤ, pos, ◌+ℤ◌, ◌-ℤ◌, ◌*ℤ◌, ◌≤ℤ◌, List, [], ◌∷◌, length, map, get_or, set, refl, sym, ap, ◌∙◌, subst, arith}
+use Rattle.std.specs.Prelude.{unsigned_abs}
 use Rattle.std.proofs.lemmas.Int.{ints}
-use Rattle.std.proofs.lemmas.List.{length-set, length-map, get_or-map, get_or-set_same, get_or-set_other}
-use Rattle.std.proofs.lemmas.Bool.{cases_eq}
+use Rattle.std.proofs.lemmas.List.{length-set, length-map, get_or-map}
 use Rattle.std.proofs.lemmas.List.Sums.{count_by-le-length}
 use Rattle.std.proofs.Math.IntN.{*ℤ-zero, *ℤ-one}
 use Rattle.words.specs.Lists.{inner_product}
 use Rattle.words.proofs.InnerProducts.{inner_product-set}
 use Rattle.words.proofs.Products.{mul_minus, zero_minus_mul, size_within, within_size}
 use Rattle.bound_graph.specs.declared.arc.Arc.{Arc}
-use Rattle.bound_graph.specs.Arcs.{IsArc}
 use Rattle.bound_graph.specs.Graph.{Digraph}
 use Rattle.bound_graph.specs.Values.{value_of}
 use Rattle.flow_core.specs.declared.limits.TheConstants.{MOST_VALUE}
-use Rattle.flow_core.specs.Layout.{FlowNetwork, nodes_of, arcs_of, arc_numbered, no_arc, capacities_of, capacity_numbered}
+use Rattle.flow_core.specs.Layout.{arcs_of, arc_numbered, no_arc, capacities_of, capacity_numbered}
 use Rattle.flow_core.specs.State.{NetworkState, IsNetwork, IsWithin, is_flowing, one_if, unit_balance, balance, flow_on, residual_of, added, rise_by, raised, pushed}
 use Rattle.flow_core.specs.Stored.{IsStored}
 use Rattle.flow_core.proofs.Elements.{zip_set, all_set, count_by_set, added_at}

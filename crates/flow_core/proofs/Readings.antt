@@ -1,14 +1,14 @@
 -- The arcs of readings: their places among all arcs, and what flows on them.
-use Rattle.std.proofs.Common.{◌≡◌, ◌≢◌, ℕ, zero, suc, ◌+◌, ◌*◌, ◌/◌, ◌<◌, ◌≤◌, Bool, true, false, eqb, ℤ, pos, negsuc, ◌+ℤ◌, ◌-ℤ◌, ◌*ℤ◌, ◌≤ℤ◌, ◌<ℤ◌, List, [], ◌∷◌, ◌++◌, length, map, get_or, take, drop, refl, sym, ap, ◌∙◌, arith, add-zero}
+use Rattle.std.proofs.Common.{◌≡◌, ℕ, zero, suc, ◌+◌, ◌*◌, ◌<◌, ◌≤◌, Bool, true, false, eqb, ℤ, pos, negsuc, ◌+ℤ◌, ◌-ℤ◌, ◌*ℤ◌, ◌≤ℤ◌, ◌<ℤ◌, List, [], ◌∷◌, ◌++◌, length, map, get_or, take, drop, refl, sym, ap, ◌∙◌, arith, add-zero}
 use Rattle.std.specs.Prelude.{unsigned_abs}
-use Rattle.std.specs.List.{AllByRecursion, AllZip}
+use Rattle.std.specs.List.{AllZip}
 use Rattle.std.proofs.lemmas.Int.{ints, by_lt_z}
 use Rattle.std.proofs.lemmas.Bool.{eq-eqb, ne_eqb}
 use Rattle.std.proofs.Math.IntN.{*ℤ_comm, *ℤ-zero, *ℤ-one, *ℤ-negsuc}
 use Rattle.words.specs.Lists.{inner_product}
 use Rattle.words.proofs.Products.{minus_mul, mul_minus, zero_minus_mul, size_within}
 use Rattle.bound_graph.specs.declared.arc.Arc.{Arc}
-use Rattle.flow_core.specs.Layout.{reading_arcs, no_arc, twice}
+use Rattle.flow_core.specs.Layout.{reading_arcs, no_arc}
 use Rattle.flow_core.specs.State.{IsWithin, one_if, unit_balance, balance}
 
 -- ---- lists

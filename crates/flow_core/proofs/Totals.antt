@@ -1,5 +1,5 @@
 -- The excesses of all nodes add up to 0.
-use Rattle.std.proofs.Common.{◌≡◌, ℕ, zero, suc, ◌+◌, ◌<◌, ◌≤◌, Bool, true, false, eqb, ◌⊎◌, ⊎_elim, ℤ, pos, ◌+ℤ◌, ◌-ℤ◌, ◌*ℤ◌, List, [], ◌∷◌, length, map, get_or, refl, sym, ap, ◌∙◌, subst, arith}
+use Rattle.std.proofs.Common.{◌≡◌, ℕ, zero, suc, ◌+◌, ◌<◌, ◌≤◌, false, eqb, ⊎_elim, ℤ, pos, ◌+ℤ◌, ◌-ℤ◌, ◌*ℤ◌, List, [], ◌∷◌, length, refl, sym, ap, ◌∙◌, subst, arith}
 use Rattle.std.specs.List.{AllByRecursion}
 use Rattle.std.proofs.lemmas.Int.{ints}
 use Rattle.std.proofs.lemmas.Bool.{eq-eqb, ne_eqb, cases_eq, cases_lt}
@@ -8,10 +8,9 @@ use Rattle.std.proofs.Math.IntN.{*ℤ-zero}
 use Rattle.words.proofs.Products.{mul_sum}
 use Rattle.bound_graph.specs.declared.arc.Arc.{Arc}
 use Rattle.bound_graph.specs.Arcs.{IsArc}
-use Rattle.bound_graph.specs.Values.{value_of}
-use Rattle.flow_core.specs.Layout.{nodes_of, arcs_of}
-use Rattle.flow_core.specs.State.{NetworkState, IsNetwork, one_if, unit_balance, balance}
-use Rattle.flow_core.specs.Laws.{IsBalancedAtReadings, BalancedEverywhere}
+use Rattle.flow_core.specs.Layout.{arcs_of}
+use Rattle.flow_core.specs.State.{one_if, unit_balance, balance}
+use Rattle.flow_core.specs.Laws.{BalancedEverywhere}
 use Rattle.flow_core.proofs.Sizes.{arcs_valid}
 
 -- the sum of what is at the nodes below a count

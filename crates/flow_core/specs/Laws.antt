@@ -3,7 +3,7 @@ use Rattle.std.specs.Prelude.{◌≡◌, ℕ, suc, ◌/◌, ◌<◌, ℤ, pos, �
 use Rattle.std.specs.List.{AllByRecursion}
 use Rattle.words.specs.Lists.{Distinct}
 use Rattle.screen_model.specs.declared.place.Place.{Place}
-use Rattle.screen_model.specs.Obeys.{Priced, HasEnds, Obeys}
+use Rattle.screen_model.specs.Obeys.{Priced, HasEnds}
 use Rattle.screen_model.specs.Cost.{Problem, IsProblem, cost}
 use Rattle.screen_model.specs.Flow.{pull, IsAdmissible, dual_value}
 use Rattle.screen_model.specs.Best.{IsBest, IsBlocked}

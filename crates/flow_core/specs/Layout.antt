@@ -1,6 +1,6 @@
 -- To be believed: what a flow network is made of. Its arcs with their costs and capacities are those of the bounds, which
 -- carry flow from their first end to their second, and two for each reading, which carry flow to and from it.
-use Rattle.std.specs.Prelude.{◌≡◌, ℕ, suc, ◌+◌, ◌*◌, ◌^◌, ◌<◌, ◌≤◌, ◌==◌, not, Bool, if◌then◌else◌, ℤ, pos, ◌-ℤ◌, List, [], ◌∷◌, ◌++◌, length, map, sum, count_by, get_or, unsigned_abs}
+use Rattle.std.specs.Prelude.{◌≡◌, ℕ, suc, ◌+◌, ◌<◌, ◌≤◌, ◌==◌, not, Bool, if◌then◌else◌, ℤ, pos, ◌-ℤ◌, List, [], ◌∷◌, ◌++◌, length, map, sum, count_by, get_or, unsigned_abs}
 use Rattle.std.specs.List.{AllByRecursion}
 use Rattle.screen_model.specs.declared.place.Place.{Place}
 use Rattle.screen_model.specs.declared.place.End.{End}

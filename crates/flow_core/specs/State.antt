@@ -1,5 +1,5 @@
 -- To be believed: what flows in a network, the excesses that this leaves at its nodes, and the potentials of the nodes.
-use Rattle.std.specs.Prelude.{◌≡◌, ℕ, ◌+◌, ◌-◌, ◌^◌, ◌<◌, ◌≤◌, ◌==◌, not, min, Bool, true, false, if◌then◌else◌, ℤ, pos, zero, suc, negsuc, ◌+ℤ◌, ◌-ℤ◌, ◌≤ℤ◌, List, length, map, take, replicate, get_or, slice_set, count_by, unsigned_abs}
+use Rattle.std.specs.Prelude.{◌≡◌, ℕ, ◌+◌, ◌-◌, ◌^◌, ◌<◌, ◌≤◌, ◌==◌, min, Bool, true, false, if◌then◌else◌, ℤ, pos, zero, suc, negsuc, ◌+ℤ◌, ◌-ℤ◌, ◌≤ℤ◌, List, length, map, take, replicate, get_or, slice_set, count_by, unsigned_abs}
 use Rattle.std.specs.List.{AllByRecursion, AllZip}
 use Rattle.words.specs.Lists.{inner_product}
 use Rattle.bound_graph.specs.declared.arc.Arc.{Arc}

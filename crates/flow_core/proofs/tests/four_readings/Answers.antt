@@ -1,8 +1,8 @@
-use Rattle.std.proofs.Common.{◌≡◌, ℕ, ◌<◌, pos, List, [], ◌∷◌, length, get_or, refl, ◌∙◌, arith}
+use Rattle.std.proofs.Common.{◌≡◌, ℕ, pos, List, [], ◌∷◌, refl, ◌∙◌, arith}
 use Rattle.std.specs.Prelude.{Contains}
 use Rattle.std.specs.List.{AllByRecursion}
 use Rattle.screen_model.specs.declared.place.Place.{Place}
-use Rattle.screen_model.specs.declared.place.End.TheVariants.{Zero, At}
+use Rattle.screen_model.specs.declared.place.End.TheVariants.{At}
 use Rattle.screen_model.specs.declared.bound.Bound.{Bound}
 use Rattle.screen_model.specs.Obeys.{HasEnds, Priced, with_prices}
 use Rattle.flow_core.specs.Layout.{IsRanged}
@@ -47,13 +47,13 @@ ranged price = (
 pub new-requires-clause-ends : goal.new-requires-clause-ends
 new-requires-clause-ends c =
     let bounds : c.in_ok-bounds.bounds ≡ the_bounds = c.in_ok-bounds.ensures ∙ (λ i.
-        c.bound.ensures i ∷ c.bound-2.ensures i ∷ c.bound-3.ensures i ∷ c.bound-4.ensures i ∷ c.bound-5.ensures i
-        ∷ c.bound-6.ensures i ∷ c.bound-7.ensures i ∷ c.bound-8.ensures i ∷ c.bound-9.ensures i ∷ c.bound-10.ensures i ∷ []) in
+    c.bound.ensures i ∷ c.bound-2.ensures i ∷ c.bound-3.ensures i ∷ c.bound-4.ensures i ∷ c.bound-5.ensures i
+    ∷ c.bound-6.ensures i ∷ c.bound-7.ensures i ∷ c.bound-8.ensures i ∷ c.bound-9.ensures i ∷ c.bound-10.ensures i ∷ []) in
     rw (c.in_ok-places.ensures, bounds) ends
 
 pub new-requires-clause-ranged : goal.new-requires-clause-ranged
 new-requires-clause-ranged c =
     let bounds : c.in_ok-bounds.bounds ≡ the_bounds = c.in_ok-bounds.ensures ∙ (λ i.
-        c.bound.ensures i ∷ c.bound-2.ensures i ∷ c.bound-3.ensures i ∷ c.bound-4.ensures i ∷ c.bound-5.ensures i
-        ∷ c.bound-6.ensures i ∷ c.bound-7.ensures i ∷ c.bound-8.ensures i ∷ c.bound-9.ensures i ∷ c.bound-10.ensures i ∷ []) in
+    c.bound.ensures i ∷ c.bound-2.ensures i ∷ c.bound-3.ensures i ∷ c.bound-4.ensures i ∷ c.bound-5.ensures i
+    ∷ c.bound-6.ensures i ∷ c.bound-7.ensures i ∷ c.bound-8.ensures i ∷ c.bound-9.ensures i ∷ c.bound-10.ensures i ∷ []) in
     rw (c.in_ok-places.ensures, bounds) (ranged c.args.price)

@@ -1,9 +1,8 @@
 use Rattle.std.proofs.Common.{◌≡◌, ℕ, pos, List, [], ◌∷◌, refl, ◌∙◌, arith}
 use Rattle.std.specs.List.{AllByRecursion}
-use Rattle.screen_model.specs.declared.place.Place.{Place}
 use Rattle.screen_model.specs.declared.place.End.TheVariants.{Zero, At}
 use Rattle.screen_model.specs.declared.bound.Bound.{Bound}
-use Rattle.screen_model.specs.Obeys.{Priced, with_prices}
+use Rattle.screen_model.specs.Obeys.{with_prices}
 use Rattle.flow_core.specs.Layout.{IsRanged}
 use Rattle.flow_core.proofs.Examples.{in_row, between, at_most, at_least, ranged_by}
 use Rattle.flow_core.proofs.tests.one_reading.Goals as goal

@@ -1,8 +1,7 @@
-use Rattle.std.proofs.Common.{◌≡◌, ◌≤◌, ◌/◌, length, true, false, sym, ap, ◌∙◌, rules, arith, w64, of_z, to_z}
+use Rattle.std.proofs.Common.{◌≡◌, ◌/◌, true, false, sym, ap, ◌∙◌, rules, arith, w64, of_z, to_z}
 use Rattle.std.specs.Prelude.{FitsSigned}
 use Rattle.std.specs.Int.{is_positive}
 use Rattle.std.proofs.lemmas.Int.{to_z-of_z}
-use Rattle.flow_core.specs.Layout.{arcs_of}
 use Rattle.flow_core.specs.State.{residual_of}
 use Rattle.flow_core.proofs.BothWays.{is_back, residual_past, residual_there, residual_away}
 use Rattle.flow_core.proofs.views.residual_arc.Goals as goal

@@ -1,4 +1,4 @@
-use Rattle.std.proofs.Common.{◌≡◌, ◌*◌, List, Option, Some, length, map, ap, ◌∙◌, arith}
+use Rattle.std.proofs.Common.{List, Option, Some, length, ap, ◌∙◌}
 use Rattle.std.proofs.lemmas.List.{length-map}
 use Rattle.bound_graph.specs.declared.arc.Arc.{Arc}
 use Rattle.flow_core.specs.Layout.{arcs_of}

@@ -1,9 +1,8 @@
-use Rattle.std.proofs.Common.{◌≡◌, ◌<◌, ◌≤◌, pos, ◌-ℤ◌, length, sym, ap, ◌∙◌, subst, rules, arith, w64, of_z, to_z}
-use Rattle.std.specs.Prelude.{FitsSigned, unsigned_abs}
+use Rattle.std.proofs.Common.{◌≡◌, pos, ◌-ℤ◌, sym, ap, ◌∙◌, rules, arith, w64, of_z, to_z}
+use Rattle.std.specs.Prelude.{FitsSigned}
 use Rattle.std.proofs.lemmas.Int.{to_z-of_z, fits_signed_from_abs}
 use Rattle.std.proofs.lemmas.List.{length-set}
 use Rattle.words.proofs.Products.{size_of_minus}
-use Rattle.bound_graph.specs.Values.{value_of}
 use Rattle.flow_core.specs.Layout.{arc_numbered}
 use Rattle.flow_core.specs.State.{NetworkState, rise_by, added}
 use Rattle.flow_core.proofs.Pushing.{ready_from, written_stored}

@@ -1,5 +1,5 @@
-use Rattle.std.proofs.Common.{◌≡◌, ◌<◌, ◌≤◌, ◌-ℤ◌, pos, length, sym, ap, ◌∙◌, subst, rules, arith, w64, of_z, to_z}
-use Rattle.std.specs.Prelude.{FitsSigned, unsigned_abs}
+use Rattle.std.proofs.Common.{◌<◌, ◌-ℤ◌, pos, length, sym, ap, ◌∙◌, subst, rules, arith, w64, of_z, to_z}
+use Rattle.std.specs.Prelude.{FitsSigned}
 use Rattle.std.proofs.lemmas.Int.{to_z-of_z, fits_signed_from_abs}
 use Rattle.std.proofs.lemmas.List.{get_or_read}
 use Rattle.flow_core.specs.Layout.{arcs_of, capacity_numbered}

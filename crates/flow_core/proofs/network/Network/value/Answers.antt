@@ -1,10 +1,10 @@
-use Rattle.std.proofs.Common.{◌≡◌, ℕ, ◌+◌, ◌<◌, ◌≤◌, ℤ, pos, ◌-ℤ◌, ◌*ℤ◌, List, length, take, get_or, ap, ◌∙◌, subst, rules, arith, w64, of_z, to_z}
+use Rattle.std.proofs.Common.{◌≡◌, ℕ, ◌+◌, ◌<◌, ℤ, pos, ◌-ℤ◌, ◌*ℤ◌, List, length, take, get_or, ap, ◌∙◌, subst, rules, arith, w64, of_z, to_z}
 use Rattle.std.specs.Prelude.{FitsSigned}
 use Rattle.std.proofs.lemmas.Int.{to_z-of_z, fits_signed_from_abs}
 use Rattle.words.specs.Lists.{inner_product}
 use Rattle.words.proofs.Products.{size_of_minus}
 use Rattle.bound_graph.specs.declared.arc.Arc.{Arc}
-use Rattle.flow_core.specs.Layout.{arcs_of, arc_numbered}
+use Rattle.flow_core.specs.Layout.{arc_numbered}
 use Rattle.flow_core.specs.State.{NetworkState, IsNetwork, flow_on}
 use Rattle.flow_core.proofs.Sizes.{few_arcs, arc_valid, length-flows, flow_small, costs_of, costs_so_far_small, cost_of_one_more}
 use Rattle.flow_core.proofs.network.Network.value.Goals as goal

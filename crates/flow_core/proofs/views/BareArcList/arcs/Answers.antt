@@ -1,6 +1,5 @@
-use Rattle.std.proofs.Common.{◌≡◌, ◌||◌, sym, ◌∙◌}
-use Rattle.flow_core.specs.Layout.{arcs_of}
-use Rattle.flow_core.specs.Views.{is_residual, is_bare}
+use Rattle.std.proofs.Common.{sym, ◌∙◌}
+use Rattle.flow_core.specs.Views.{is_bare}
 use Rattle.flow_core.proofs.BothWays.{length-there_from}
 use Rattle.flow_core.proofs.views.BareArcList.arcs.Goals as goal
 

@@ -1,6 +1,6 @@
-use Rattle.std.proofs.Common.{◌≡◌, ◌||◌, sym, ◌∙◌}
+use Rattle.std.proofs.Common.{sym, ◌∙◌}
 use Rattle.flow_core.specs.Layout.{arcs_of}
-use Rattle.flow_core.specs.Views.{is_residual, is_bare}
+use Rattle.flow_core.specs.Views.{is_residual}
 use Rattle.flow_core.proofs.BothWays.{length-there_from}
 use Rattle.flow_core.proofs.views.ResidualArcList.arcs.Goals as goal
 
