@@ -1,5 +1,5 @@
 //! The flow network.
-ghost use Rattle.std.specs.Prelude.{◌≡◌, ◌≤◌, ◌<◌, ◌+◌, ◌*◌, ◌^◌, ℤ, pos, ◌≤ℤ◌, length, get_or, slice_set, unsigned_abs, IfOk, IfSome, map, Some, true};
+ghost use Rattle.std.specs.Prelude.{◌≡◌, ◌≤◌, ◌<◌, ◌+◌, ◌*◌, ◌^◌, ℤ, pos, ◌≤ℤ◌, length, slice_set, unsigned_abs, IfOk, IfSome, map, Some, true};
 ghost use Rattle.std.specs.List.{AllByRecursion};
 ghost use Rattle.words.specs.Lists.{Distinct};
 ghost use Rattle.screen_model.specs.Obeys.{HasEnds, with_prices};

@@ -1,5 +1,5 @@
 //! Sums and products of signed numbers.
-ghost use Rattle.std.specs.Prelude.{◌≡◌, ◌≤◌, ◌<◌, ◌+◌, ◌*◌, ◌^◌, ℤ, pos, ◌+ℤ◌, ◌-ℤ◌, ◌*ℤ◌, ◌≤ℤ◌, length, sum, get_or, unsigned_abs};
+ghost use Rattle.std.specs.Prelude.{◌≡◌, ◌≤◌, ◌<◌, ◌+◌, ◌*◌, ◌^◌, ℤ, pos, ◌*ℤ◌, ◌≤ℤ◌, length, sum, get_or, unsigned_abs};
 ghost use Rattle.std.specs.Int.{is_positive};
 ghost use Rattle.flow_core.specs.State.{added, rise_by};
 

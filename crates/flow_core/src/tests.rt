@@ -93,6 +93,10 @@ fn sizes_are(rt: &impl Abort, net: &Network, nodes: u32, arcs: u32, bounds: u32)
     assert_eq!(rt; net.bounds(), bounds);
 }
 
+fn arc(tail: u32, head: u32, cost: i64) -> Arc {
+    Arc { tail, head, cost }
+}
+
 /// The arcs of these numbers are these.
 fn arcs_are(rt: &impl Abort, net: &Network, arcs: &[(u32, Arc)]) {
     for (number, arc) in arcs {
@@ -142,6 +146,15 @@ fn views_are(rt: &impl Abort, net: &Network, views: &[(u32, bool, bool, bool)]) 
     }
 }
 
+/// A potential is 0, and another one after it was set.
+fn potential_moves(rt: &impl Abort, net: &mut Network, node: u32, value: i64) {
+    assert!(rt; 0 < node && node < net.nodes());
+    assert!(rt; -100 <= value && value <= 100);
+    assert_eq!(rt; net.potential(node), 0);
+    net.set_potential(node, value);
+    assert_eq!(rt; net.potential(node), value);
+}
+
 #[test]
 fn a_network_of_nothing(rt: HostRuntime) -> Result<(), Fail> {
     let values = Series::new(rt.alloc());
@@ -187,25 +200,10 @@ fn one_reading_pays_a_price(rt: HostRuntime) -> Result<(), Fail> {
 fn a_flow_pushed_by_hand(rt: HostRuntime) -> Result<(), Fail> {
     let mut net = four_readings(rt.alloc(), 1, 0)?;
     sizes_are(&rt, &net, 5, 18, 10);
-    let bound = Arc {
-        tail: 2,
-        head: 3,
-        cost: 1,
-    };
-    let into_second = Arc {
-        tail: 0,
-        head: 2,
-        cost: 11,
-    };
-    let out_of_third = Arc {
-        tail: 3,
-        head: 0,
-        cost: -20,
-    };
     arcs_are(
         &rt,
         &net,
-        &[(8, bound), (12, into_second), (15, out_of_third)],
+        &[(8, arc(2, 3, 1)), (12, arc(0, 2, 11)), (15, arc(3, 0, -20))],
     );
     leaving_are(&rt, &net, 3, &[9, 10, 17, 18, 29, 30]);
     push(&rt, &mut net, 12, false, 1);
@@ -227,16 +225,9 @@ fn a_flow_pushed_by_hand(rt: HostRuntime) -> Result<(), Fail> {
             (36, false, false, false),
         ],
     );
-    assert_eq!(rt;
-        net.residual_arcs().arc(25),
-        Some(Arc {
-            tail: 2,
-            head: 0,
-            cost: -11
-        })
-    );
-    assert_eq!(rt; net.tight_arcs().arc(16), Some(bound));
-    assert_eq!(rt; net.bound_arcs().arc(16), Some(bound));
+    assert_eq!(rt; net.residual_arcs().arc(25), Some(arc(2, 0, -11)));
+    assert_eq!(rt; net.tight_arcs().arc(16), Some(arc(2, 3, 1)));
+    assert_eq!(rt; net.bound_arcs().arc(16), Some(arc(2, 3, 1)));
     push(&rt, &mut net, 15, true, 1);
     excesses_are(&rt, &net, &[-1, 0, 0, 1, 0]);
     assert_eq!(rt; net.value(), -12);
@@ -267,13 +258,4 @@ fn prices_between_readings(rt: HostRuntime) -> Result<(), Fail> {
     views_are(&rt, &net, &[(0, false, true, true), (1, true, true, false)]);
     potential_moves(&rt, &mut net, 4, -5);
     Ok(())
-}
-
-/// A potential is 0, and another one after it was set.
-fn potential_moves(rt: &impl Abort, net: &mut Network, node: u32, value: i64) {
-    assert!(rt; 0 < node && node < net.nodes());
-    assert!(rt; -100 <= value && value <= 100);
-    assert_eq!(rt; net.potential(node), 0);
-    net.set_potential(node, value);
-    assert_eq!(rt; net.potential(node), value);
 }
