@@ -13,8 +13,8 @@ mod text;
 
 pub use number::{MOST_BYTES, MOST_DIGITS, MOST_EXPONENT_DIGITS};
 pub use rate::{
-    Rate, ceil_rate, floor_rate, least_is_greatest_turned, one_step, reach_of_fewer_ticks,
-    steps_add_up,
+    MOST_MILLIONTHS, MOST_PER, MOST_REACH, MOST_SPAN, Rate, ceil_rate, floor_rate,
+    least_is_greatest_turned, one_step, reach_of_fewer_ticks, steps_add_up, whole_steps,
 };
 pub use scale::{Extra, MOST_UNITS, NumFault, an_answer, one_answer, one_value, scaled, units};
 pub use steps::{Step, Steps};

@@ -1,3 +1,6 @@
+//! Number texts of each form and each refusal, sizes at the limits, numbers as texts, and steps at rates of
+//! either sign and on one side alone.
+
 use crate::Extra::{Refuse, Round};
 use crate::NumFault::{NotNumber, OutOfRange, TooFine};
 use crate::{

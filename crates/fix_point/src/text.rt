@@ -1,5 +1,6 @@
 //! Whole numbers of a unit as decimal texts.
 ghost use Rattle.std.specs.Prelude.{◌≡◌, ℕ, ℤ, ◌/◌, ◌%◌, ◌++◌, ◌^◌, ◌<◌, ◌≤◌, IfOk, OnOk, decimal, unsigned_abs};
+ghost use Rattle.std.specs.Io.{StartsWith};
 ghost use Rattle.fix_point.specs.declared.scale.Extra.{Extra};
 ghost use Rattle.fix_point.specs.Scaled.{Spells};
 ghost use Rattle.fix_point.specs.Text.{decimals_text, places, text_of_value};
@@ -20,11 +21,12 @@ pub fn text_of(alloc: Global, v: i128, d: u32) -> Result<Vec<u8>, AllocError>
 }
 
 /// Adds this text to the end of another one. It takes no memory but what that one needs to grow. After an
-/// error a part of the text may have been added.
+/// error a part of the text may have been added, and what stood before it stands as it was.
 pub fn push_text_of(text: &mut Vec<u8>, v: i128, d: u32) -> Result<(), AllocError>
     requires size { unsigned_abs v ≤ 10 ^ 30 }
     requires decimals { d ≤ 6 }
-    ensures { OnOk result (text.new.items ≡ text.old.items ++ text_of_value v d) }
+    ensures text { OnOk result (text.new.items ≡ text.old.items ++ text_of_value v d) }
+    ensures front { StartsWith text.new.items text.old.items }
 {
     if v < 0 {
         text.push(b'-')?;
@@ -37,6 +39,7 @@ pub fn push_text_of(text: &mut Vec<u8>, v: i128, d: u32) -> Result<(), AllocErro
 fn push_whole(text: &mut Vec<u8>, size: u128, power: u32) -> Result<u32, AllocError>
     requires { 0 < power }
     ensures text { OnOk result (text.new.items ≡ text.old.items ++ decimal (size / power)) }
+    ensures front { StartsWith text.new.items text.old.items }
     ensures left { IfOk result (λ left. left ≡ size % power) }
 {
     let mut digits = Buffer::new();
@@ -64,7 +67,8 @@ pub fn texts_are_read_back()
 /// Adds a point and the last so many digits of a number, where they are any.
 fn push_decimals(text: &mut Vec<u8>, size: u32, count: u32) -> Result<(), AllocError>
     requires { count ≤ 6 }
-    ensures { OnOk result (text.new.items ≡ text.old.items ++ decimals_text count size) }
+    ensures text { OnOk result (text.new.items ≡ text.old.items ++ decimals_text count size) }
+    ensures front { StartsWith text.new.items text.old.items }
 {
     if count == 0 {
         return Ok(());
@@ -76,7 +80,8 @@ fn push_decimals(text: &mut Vec<u8>, size: u32, count: u32) -> Result<(), AllocE
 /// Adds the last so many digits of a number.
 fn push_places(text: &mut Vec<u8>, size: u32, count: u32) -> Result<(), AllocError>
     requires { count ≤ 6 }
-    ensures { OnOk result (text.new.items ≡ text.old.items ++ places count size) }
+    ensures text { OnOk result (text.new.items ≡ text.old.items ++ places count size) }
+    ensures front { StartsWith text.new.items text.old.items }
 {
     for place in (0..count).rev() {
         let digit = size / 10u32.pow(place) % 10;

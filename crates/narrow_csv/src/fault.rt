@@ -41,4 +41,11 @@ impl TableFault {
             col: 0,
         }
     }
+
+    /// The fault of a file of more than 268,435,456 bytes.
+    pub fn too_long() -> TableFault
+        ensures { result ≡ of_the_file TableCause.FileTooLong }
+    {
+        TableFault::of_the_file(TableCause::FileTooLong)
+    }
 }

@@ -1,5 +1,5 @@
 //! The bytes of a readings file.
-ghost use Rattle.std.specs.Prelude.{◌≡◌, ◌≢◌, ◌<◌, length, ◌++◌, ℕ, List, Result, ◌∷◌, [], IfOk, IfErr, IfSome, IsSomeAnd, IsTrue, ◌↔◌};
+ghost use Rattle.std.specs.Prelude.{◌≡◌, ◌≢◌, ◌<◌, ◌≤◌, length, ◌++◌, ℕ, List, Result, ◌∷◌, [], IfOk, IfErr, IfSome, IsSomeAnd, IsTrue, ◌↔◌};
 ghost use Rattle.narrow_csv.specs.Fields.{AreLinesOf, RefusesLines};
 ghost use Rattle.words.specs.Answers.{UnlessMemory};
 ghost use Rattle.narrow_csv.specs.Fault.{of_the_file};
@@ -34,6 +34,9 @@ pub fn read_table(alloc: Global, sensor: &[u8], bytes: &[u8]) -> Result<Table, T
 {
     // The law behind `only`; it does nothing.
     one_answer();
+    if bytes.len() > LONGEST {
+        return Err(TableFault::too_long());
+    }
     match table_of(alloc, sensor, bytes) {
         Ok(table) => Ok(table),
         Err(cause) => Err(TableFault::of_the_file(cause)),
@@ -47,13 +50,10 @@ pub fn one_answer()
 
 /// The table, or the cause that keeps the file from having one.
 fn table_of(alloc: Global, sensor: &[u8], bytes: &[u8]) -> Result<Table, TableCause>
+    requires { length bytes.now ≤ LONGEST }
     ensures accepted { IfOk result (Spells sensor.now bytes.now) }
     ensures refused { IfErr result (λ cause. cause ≢ TableCause.Memory → HasCause sensor.now bytes.now cause) }
-    ensures too_long { LONGEST < length bytes.now → result ≡ Err TableCause.FileTooLong }
 {
-    if bytes.len() > LONGEST {
-        return Err(TableCause::FileTooLong);
-    }
     let Some(lines) = after_header(sensor, bytes) else {
         return Err(TableCause::NotBuilt);
     };

@@ -2,7 +2,7 @@
 use Rattle.std.proofs.Common.{◌≡◌, ◌≢◌, ℕ, zero, suc, ◌+◌, ◌-◌, ◌<◌, ◌≤◌, List, [], ◌∷◌, ◌++◌, length, get_or, take, drop, refl, sym, ap, ◌∙◌, arith, length-append}
 use Rattle.std.proofs.lemmas.List.{take-append-le, drop-append-le, length-drop, length-take-le, drop_at, take_all}
 use native.Mathlib.Numerals.{unary_clauses}
-use Rattle.record_cut.specs.Drafted.{size_of_fields}
+use Rattle.record_cut.specs.Sizes.{size_of_fields}
 use Rattle.record_cut.specs.Split.{pieces, Rises, starts_at}
 
 pub pieces-nil : (bytes : List ℕ) (from : ℕ) → pieces bytes from [] ≡ []

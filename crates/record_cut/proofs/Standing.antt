@@ -122,15 +122,15 @@ pub fed-long : (old : Cutter) (byte : ℕ) (bytes : List ℕ) → 65536 ≤ old.
 fed-long old byte bytes h stands = fails-at old byte bytes RecordTooLong stands (long-step old.sep byte old.count old.phase old.draft old.separates stands.fits (omega (arith, old.short)))
 
 -- the first bytes of a record say what the next is
-abbrev pub Tells : Phase → ℕ → Opening → Type 0
-Tells phase byte x = (sep : ℕ) (draft : Drafted) (count : ℕ) → IsTrue (is_separator sep) → Fits phase draft count → Opens sep phase draft count byte x
+abbrev pub OpensAs : Phase → ℕ → Opening → Type 0
+OpensAs phase byte x = (sep : ℕ) (draft : Drafted) (count : ℕ) → IsTrue (is_separator sep) → Fits phase draft count → Opens sep phase draft count byte x
 
 pub to-step : (sep byte count size : ℕ) (phase : Phase) (place next : Place) (draft new : Drafted) → Opens sep phase draft count byte (Read place) → GoesTo sep place draft byte next new → size ≡ count + 1 → Resumes sep phase draft count (byte ∷ []) [] (Inside next) new size
 to-step sep byte count size phase place next draft new opens goes e all more =
     let long : count + length (byte ∷ more) ≡ size + length more = omega arith in
     opens.1 all more ∙ ap (by_record (records_from sep all) all (count + length (byte ∷ more))) (goes.same more) ∙ ap (λ n. by_record (records_from sep all) all n (continued sep next new more)) long
 
-pub fed-to : (old new : Cutter) (byte : ℕ) (bytes : List ℕ) (place next : Place) (move : Move) → Tells old.phase byte (Read place) → (FitsPlace place old.draft → Moves old.sep place old.draft byte (Ok move) new.draft) → move ≡ To next → new.sep ≡ old.sep → new.phase ≡ Inside next → new.count ≡ old.count + 1 → StandsFor old old.sep bytes → GoesOn old.sep bytes (byte ∷ []) [] new
+pub fed-to : (old new : Cutter) (byte : ℕ) (bytes : List ℕ) (place next : Place) (move : Move) → OpensAs old.phase byte (Read place) → (FitsPlace place old.draft → Moves old.sep place old.draft byte (Ok move) new.draft) → move ≡ To next → new.sep ≡ old.sep → new.phase ≡ Inside next → new.count ≡ old.count + 1 → StandsFor old old.sep bytes → GoesOn old.sep bytes (byte ∷ []) [] new
 fed-to old new byte bytes place next move tells moves is same phase size stands =
     let opens : Opens old.sep old.phase old.draft old.count byte (Read place) = tells old.sep old.draft old.count old.separates stands.fits in
     let P : Move → Type 0 = λ m. Moves old.sep place old.draft byte (Ok m) new.draft in
@@ -170,7 +170,7 @@ pub end-step : (sep byte count size : ℕ) (phase next : Phase) (place : Place) 
 end-step sep byte count size phase next place draft mid new opens ended short e f all more =
     opens.1 all more ∙ ap (by_record (records_from sep all) all (count + length (byte ∷ more))) (ended more) ∙ by_whole (records_from sep all) all count byte more (mid.fields ++ mid.field ∷ []) short ∙ ap (with_records ((mid.fields ++ mid.field ∷ []) ∷ [])) (begun-resumes sep all size next new more e f)
 
-pub fed-end : (old new : Cutter) (byte : ℕ) (bytes : List ℕ) (place : Place) (move : Move) (draft : Drafted) (fields : List (List ℕ)) → Tells old.phase byte (Read place) → (FitsPlace place old.draft → Moves old.sep place old.draft byte (Ok move) draft) → move ≡ EndRecord → fields ≡ draft.fields ++ (draft.field ++ []) ∷ [] → old.count < 65536 → new.sep ≡ old.sep → HasBegun Record new → StandsFor old old.sep bytes → EndsRecord old.sep bytes (byte ∷ []) fields new
+pub fed-end : (old new : Cutter) (byte : ℕ) (bytes : List ℕ) (place : Place) (move : Move) (draft : Drafted) (fields : List (List ℕ)) → OpensAs old.phase byte (Read place) → (FitsPlace place old.draft → Moves old.sep place old.draft byte (Ok move) draft) → move ≡ EndRecord → fields ≡ draft.fields ++ (draft.field ++ []) ∷ [] → old.count < 65536 → new.sep ≡ old.sep → HasBegun Record new → StandsFor old old.sep bytes → EndsRecord old.sep bytes (byte ∷ []) fields new
 fed-end old new byte bytes place move draft fields tells moves is e short same begun stands =
     let opens : Opens old.sep old.phase old.draft old.count byte (Read place) = tells old.sep old.draft old.count old.separates stands.fits in
     let P : Move → Type 0 = λ m. Moves old.sep place old.draft byte (Ok m) draft in
@@ -186,12 +186,12 @@ fed-end old new byte bytes place move draft fields tells moves is e short same b
 pub skip-step : (sep byte count size : ℕ) (phase next : Phase) (draft new : Drafted) → Opens sep phase draft count byte Skip → next ≡ Record → new.field ≡ [] → Resumes sep phase draft count (byte ∷ []) [] next new size
 skip-step sep byte count size phase next draft new opens e f all more = opens all more ∙ begun-resumes sep all size next new more e f
 
-pub fed-skip : (old new : Cutter) (byte : ℕ) (bytes : List ℕ) → Tells old.phase byte Skip → new.sep ≡ old.sep → HasBegun Record new → StandsFor old old.sep bytes → GoesOn old.sep bytes (byte ∷ []) [] new
+pub fed-skip : (old new : Cutter) (byte : ℕ) (bytes : List ℕ) → OpensAs old.phase byte Skip → new.sep ≡ old.sep → HasBegun Record new → StandsFor old old.sep bytes → GoesOn old.sep bytes (byte ∷ []) [] new
 fed-skip old new byte bytes tells same begun stands =
     let opens : Opens old.sep old.phase old.draft old.count byte Skip = tells old.sep old.draft old.count old.separates stands.fits in
     goes-on old new bytes (byte ∷ []) [] stands same (begun-fits new begun) (skip-step old.sep byte old.count new.count old.phase new.phase old.draft new.draft opens begun.phase begun.only.field)
 
-pub fed-keep : (old new : Cutter) (byte : ℕ) (bytes : List ℕ) (next : Phase) → Tells old.phase byte (Keep next) → new.draft.fields ≡ old.draft.fields → new.draft.field ≡ old.draft.field ++ byte ∷ [] → new.sep ≡ old.sep → new.phase ≡ next → new.count ≡ suc old.count → StandsFor old old.sep bytes → GoesOn old.sep bytes (byte ∷ []) [] new
+pub fed-keep : (old new : Cutter) (byte : ℕ) (bytes : List ℕ) (next : Phase) → OpensAs old.phase byte (Keep next) → new.draft.fields ≡ old.draft.fields → new.draft.field ≡ old.draft.field ++ byte ∷ [] → new.sep ≡ old.sep → new.phase ≡ next → new.count ≡ suc old.count → StandsFor old old.sep bytes → GoesOn old.sep bytes (byte ∷ []) [] new
 fed-keep old new byte bytes next tells e f same phase size stands =
     let opens : Opens old.sep old.phase old.draft old.count byte (Keep next) = tells old.sep old.draft old.count old.separates stands.fits in
     let kept = opens new.draft new.count e f size in
@@ -208,7 +208,7 @@ fed-err-if old new byte bytes place draft RecordTooLong opens moves short stands
 fed-err-if old new byte bytes place draft OpenQuote opens moves short stands = absurd moves
 fed-err-if old new byte bytes place draft Memory opens moves short stands = tt
 
-pub fed-err : (old new : Cutter) (byte : ℕ) (bytes : List ℕ) (place : Place) (draft : Drafted) (fault : CutFault) → Tells old.phase byte (Read place) → (FitsPlace place old.draft → Moves old.sep place old.draft byte (Err fault) draft) → old.count < 65536 → StandsFor old old.sep bytes → Feeds old.sep bytes (byte ∷ []) (Err fault) new
+pub fed-err : (old new : Cutter) (byte : ℕ) (bytes : List ℕ) (place : Place) (draft : Drafted) (fault : CutFault) → OpensAs old.phase byte (Read place) → (FitsPlace place old.draft → Moves old.sep place old.draft byte (Err fault) draft) → old.count < 65536 → StandsFor old old.sep bytes → Feeds old.sep bytes (byte ∷ []) (Err fault) new
 fed-err old new byte bytes place draft fault tells moves short stands =
     let opens : Opens old.sep old.phase old.draft old.count byte (Read place) = tells old.sep old.draft old.count old.separates stands.fits in
     fed-err-if old new byte bytes place draft fault opens (moves opens.0) short stands

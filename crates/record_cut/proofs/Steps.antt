@@ -6,7 +6,7 @@ use Rattle.record_cut.specs.Drafted.{Drafted}
 use Rattle.record_cut.specs.Field.{Piece, led_by, led_if_any, quoted, plain, Line, End, LastCr, Wrong, after_field}
 use Rattle.record_cut.specs.Record.{Nothing, Fields, OpenField, CrAfterQuote, RecordAt, Whole, Bad, Ends, with_fields, by_field, record_at}
 use Rattle.record_cut.specs.Resumed.{from_plain, from_quoted, from_closed, continued, FitsPlace}
-use Rattle.record_cut.specs.Moves.{Keeps, EndsField, GoesTo, Moves}
+use Rattle.record_cut.specs.Moves.{AddsByte, EndsField, GoesTo, Moves}
 use Rattle.record_cut.specs.declared.fault.CutFault.{CutFault}
 use Rattle.record_cut.specs.declared.fault.CutFault.TheVariants.{BadQuote, RecordTooLong, OpenQuote, Memory}
 use Rattle.record_cut.specs.declared.phase.Place.{Place}
@@ -85,7 +85,7 @@ field-plain sep byte draft more e h = ap (with_fields draft.fields) (record-fiel
 
 -- moves
 
-keeps-moves : (sep : ℕ) (place next : Place) (old new : Drafted) (byte : ℕ) (result : Result Move CutFault) → FitsPlace next new → (new.fields ≡ old.fields → new.field ≡ old.field ++ byte ∷ [] → (more : List ℕ) → continued sep place old (byte ∷ more) ≡ continued sep next new more) → Keeps next old byte result new → Moves sep place old byte result new
+keeps-moves : (sep : ℕ) (place next : Place) (old new : Drafted) (byte : ℕ) (result : Result Move CutFault) → FitsPlace next new → (new.fields ≡ old.fields → new.field ≡ old.field ++ byte ∷ [] → (more : List ℕ) → continued sep place old (byte ∷ more) ≡ continued sep next new more) → AddsByte next old byte result new → Moves sep place old byte result new
 keeps-moves sep place next old new byte (Ok (To at)) fits step kept =
     let P : Place → Type 0 = λ p. GoesTo sep place old byte p new in
     subst P (sym kept.0) (record { fits = fits; same = step kept.1 kept.2 })
@@ -116,7 +116,7 @@ plain-at_quote sep old is more = plain-closes sep old (34 ∷ more) (plain-quote
 pub plain-at_line_feed : (sep : ℕ) (old : Drafted) → IsTrue (is_separator sep) → (more : List ℕ) → continued sep Plain old (10 ∷ more) ≡ Whole (old.fields ++ old.field ∷ []) more
 plain-at_line_feed sep old is more = plain-closes sep old (10 ∷ more) (plain-line_feed sep more) ∙ closed-line sep old (10 ∷ more) more (after-line_feed sep more (other_byte sep 10 is refl))
 
-pub plain-at_other : (sep byte : ℕ) (old new : Drafted) (result : Result Move CutFault) → byte ≢ sep → byte ≢ 34 → byte ≢ 10 → byte ≢ 13 → Keeps Plain old byte result new → Moves sep Plain old byte result new
+pub plain-at_other : (sep byte : ℕ) (old new : Drafted) (result : Result Move CutFault) → byte ≢ sep → byte ≢ 34 → byte ≢ 10 → byte ≢ 13 → AddsByte Plain old byte result new → Moves sep Plain old byte result new
 plain-at_other sep byte old new result h q l k = keeps-moves sep Plain Plain old new byte result tt (λ e f more. plain-grows sep byte old new more e f (plain-other sep byte more h q l k))
 
 pub plain_cr-at_line_feed : (sep : ℕ) (old : Drafted) → IsTrue (is_separator sep) → (more : List ℕ) → continued sep PlainCr old (10 ∷ more) ≡ Whole (old.fields ++ old.field ∷ []) more
@@ -135,10 +135,10 @@ moves-from sep place other old kept new byte (Err RecordTooLong) same moves = mo
 moves-from sep place other old kept new byte (Err OpenQuote) same moves = moves
 moves-from sep place other old kept new byte (Err Memory) same moves = moves
 
-pub quoted-at_other : (sep byte : ℕ) (old new : Drafted) (result : Result Move CutFault) → byte ≢ 34 → Keeps Quoted old byte result new → Moves sep Quoted old byte result new
+pub quoted-at_other : (sep byte : ℕ) (old new : Drafted) (result : Result Move CutFault) → byte ≢ 34 → AddsByte Quoted old byte result new → Moves sep Quoted old byte result new
 quoted-at_other sep byte old new result h = keeps-moves sep Quoted Quoted old new byte result tt (λ e f more. quoted-grows sep byte old new (byte ∷ more) more e f (quoted-other byte more h))
 
-pub quote-at_quote : (sep byte : ℕ) (old new : Drafted) (result : Result Move CutFault) → byte ≡ 34 → Keeps Quoted old byte result new → Moves sep QuoteInQuoted old byte result new
+pub quote-at_quote : (sep byte : ℕ) (old new : Drafted) (result : Result Move CutFault) → byte ≡ 34 → AddsByte Quoted old byte result new → Moves sep QuoteInQuoted old byte result new
 quote-at_quote sep byte old new result is = keeps-moves sep QuoteInQuoted Quoted old new byte result tt (λ e f more. quoted-grows sep byte old new (34 ∷ byte ∷ more) more e f (rw is (quoted-two more)))
 
 pub quote-closes : (sep byte : ℕ) (old : Drafted) (more : List ℕ) → byte ≢ 34 → continued sep QuoteInQuoted old (byte ∷ more) ≡ from_closed sep old (byte ∷ more)

@@ -1,5 +1,5 @@
 -- To be believed: the bytes that mean something in a CSV text.
-use Rattle.std.specs.Prelude.{ℕ, Bool, ◌==◌, List, [], ◌∷◌, Option, Some, None, if◌then◌else◌}
+use Rattle.std.specs.Prelude.{ℕ, ◌==◌, List, [], ◌∷◌, Option, Some, None, if◌then◌else◌}
 
 abbrev pub quote : ℕ
 quote = 34

@@ -10,5 +10,6 @@ pub mod Records
 pub mod Resumed
 pub mod RoundTrip
 pub mod Row
+pub mod Sizes
 pub mod Split
 pub mod StandsFor

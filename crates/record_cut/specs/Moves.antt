@@ -20,13 +20,13 @@ use Rattle.record_cut.specs.declared.phase.Ending.{Ending}
 use Rattle.record_cut.specs.declared.phase.Ending.TheVariants.{Nothing, Field, FieldAndCr, Refuse}
 
 -- the byte was added to the field, and the next one stands at this place
-abbrev pub Keeps : Place → Drafted → ℕ → Result Move CutFault → Drafted → Type 0
-Keeps place old byte (Ok (To next)) new = (next ≡ place) × (new.fields ≡ old.fields) × (new.field ≡ old.field ++ byte ∷ [])
-Keeps place old byte (Ok EndRecord) new = ⊥
-Keeps place old byte (Err BadQuote) new = ⊥
-Keeps place old byte (Err RecordTooLong) new = ⊥
-Keeps place old byte (Err OpenQuote) new = ⊥
-Keeps place old byte (Err Memory) new = Unit {0}
+abbrev pub AddsByte : Place → Drafted → ℕ → Result Move CutFault → Drafted → Type 0
+AddsByte place old byte (Ok (To next)) new = (next ≡ place) × (new.fields ≡ old.fields) × (new.field ≡ old.field ++ byte ∷ [])
+AddsByte place old byte (Ok EndRecord) new = ⊥
+AddsByte place old byte (Err BadQuote) new = ⊥
+AddsByte place old byte (Err RecordTooLong) new = ⊥
+AddsByte place old byte (Err OpenQuote) new = ⊥
+AddsByte place old byte (Err Memory) new = Unit {0}
 
 -- the field has ended, and the next begins
 abbrev pub EndsField : Drafted → Result Move CutFault → Drafted → Type 0

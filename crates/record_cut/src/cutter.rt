@@ -18,7 +18,7 @@ use std::alloc::Global;
 pub const LONGEST: u32 = 65_536;
 
 /// A cutter of CSV records. It keeps no more of the text than the record that it is in. After a refusal it
-/// refuses for ever.
+/// refuses each byte that follows, and the end of the text.
 #[derive(Drop)]
 pub struct Cutter {
     alloc: Global,
@@ -85,6 +85,7 @@ impl Cutter {
         ensures within { result.count ≤ length bytes.now }
         ensures all { result.answer ≡ Ok None → result.count ≡ length bytes.now }
         ensures some { 0 < length bytes.now → 0 < result.count }
+        ensures none { length bytes.now ≡ 0 → result.answer ≡ Ok None }
 
         ensures refuses { IfErr result.answer (HasRefused self.new) }
         ensures refused { (fault : CutFault) → HasRefused self.old fault

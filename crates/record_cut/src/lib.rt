@@ -21,6 +21,8 @@ mod tests;
 pub use cutter::{Cutter, LONGEST};
 pub use fault::CutFault;
 pub use fields::Fields;
-pub use laws::{faults_stay, records_stay, row_texts_are_cut_back};
+pub use laws::{
+    faults_stay, records_are_cut_by_lines, records_are_small, records_stay, row_texts_are_cut_back,
+};
 pub use row::{end_row, push_first_field, push_next_field, push_row, row_text};
 pub use taken::Taken;

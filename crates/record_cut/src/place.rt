@@ -4,7 +4,7 @@ ghost use Rattle.std.specs.Prelude.{◌+◌, ◌<◌, ◌≤◌, ◌^◌, ℕ, l
 ghost use Rattle.words.specs.Separators.{is_separator};
 ghost use Rattle.record_cut.specs.Drafted.{Drafted, size_of};
 ghost use Rattle.record_cut.specs.Resumed.{FitsPlace, Fits};
-ghost use Rattle.record_cut.specs.Moves.{Keeps, EndsField, Moves, Opens, IsRun, RunsTo, Leaves};
+ghost use Rattle.record_cut.specs.Moves.{AddsByte, EndsField, Moves, Opens, IsRun, RunsTo, Leaves};
 
 use crate::bytes::{CARRIAGE_RETURN, LINE_FEED, MARK, QUOTE, before_quote, before_special};
 use crate::draft::Draft;
@@ -190,7 +190,7 @@ fn after_quote(draft: &mut Draft, sep: u8, byte: u8) -> Result<Move, CutFault>
 
 /// Adds the byte to the field, after which the next stands at the place.
 fn keep(draft: &mut Draft, byte: u8, place: Place) -> Result<Move, CutFault>
-    ensures kept { Keeps place draft.old byte result draft.new }
+    ensures kept { AddsByte place draft.old byte result draft.new }
     ensures size { size_of draft.new ≤ size_of draft.old + 1 }
 {
     draft.add(byte)?;

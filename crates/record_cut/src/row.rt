@@ -1,6 +1,7 @@
 //! The texts of records.
 
 ghost use Rattle.std.specs.Prelude.{◌≡◌, ◌<◌, ◌≤◌, [], ◌∷◌, ◌++◌, length, drop, IfOk, OnOk};
+ghost use Rattle.std.specs.Io.{StartsWith};
 ghost use Rattle.record_cut.specs.Bytes.{line_feed};
 ghost use Rattle.record_cut.specs.Row.{holds_special, begins_with_mark, doubled, field_text, first_in_quotes, text_of_first, text_of_next, text_of_others, text_of_row};
 
@@ -19,10 +20,12 @@ pub fn row_text(alloc: Global, fields: &Fields, sep: u8) -> Result<Vec<u8>, Allo
     Ok(text)
 }
 
-/// Adds the text of `row_text` at the end. Where memory runs out, a part of it may have been added.
+/// Adds the text of `row_text` at the end. Where memory runs out, a part of it may have been added, and what
+/// stood before it stands as it was.
 pub fn push_row(text: &mut Vec<u8>, fields: &Fields, sep: u8) -> Result<(), AllocError>
     requires { 0 < length fields.now }
-    ensures { OnOk result (text.new.items ≡ text.old.items ++ text_of_row sep fields.now) }
+    ensures text { OnOk result (text.new.items ≡ text.old.items ++ text_of_row sep fields.now) }
+    ensures front { StartsWith text.new.items text.old.items }
 {
     text.reserve(fields.size().saturating_add(fields.width() as usize))?;
     push_first_field(text, fields.at(0), fields.width(), sep)?;
@@ -33,23 +36,25 @@ pub fn push_row(text: &mut Vec<u8>, fields: &Fields, sep: u8) -> Result<(), Allo
 /// Adds the first field of a row of so many, as it stands in the text of the row. A row is written by this
 /// call, `push_next_field` for each field after the first, and `end_row`.
 ///
-/// Where memory runs out, a part of it may have been added.
+/// Where memory runs out, a part of it may have been added, and what stood before it stands as it was.
 pub fn push_first_field(
     text: &mut Vec<u8>,
     field: &[u8],
     width: u32,
     sep: u8,
 ) -> Result<(), AllocError>
-    ensures { OnOk result (text.new.items ≡ text.old.items ++ text_of_first sep field.now width) }
+    ensures text { OnOk result (text.new.items ≡ text.old.items ++ text_of_first sep field.now width) }
+    ensures front { StartsWith text.new.items text.old.items }
 {
     push_field(text, field, first_in_quotes(field, width, sep))
 }
 
 /// Adds a separator and a field after the first, as they stand in the text of a row.
 ///
-/// Where memory runs out, a part of it may have been added.
+/// Where memory runs out, a part of it may have been added, and what stood before it stands as it was.
 pub fn push_next_field(text: &mut Vec<u8>, field: &[u8], sep: u8) -> Result<(), AllocError>
-    ensures { OnOk result (text.new.items ≡ text.old.items ++ text_of_next sep field.now) }
+    ensures text { OnOk result (text.new.items ≡ text.old.items ++ text_of_next sep field.now) }
+    ensures front { StartsWith text.new.items text.old.items }
 {
     text.push(sep)?;
     push_field(text, field, holds_special(field, sep))?;
@@ -58,7 +63,8 @@ pub fn push_next_field(text: &mut Vec<u8>, field: &[u8], sep: u8) -> Result<(), 
 
 /// Adds the line feed at the end of a row.
 pub fn end_row(text: &mut Vec<u8>) -> Result<(), AllocError>
-    ensures { OnOk result (text.new.items ≡ text.old.items ++ line_feed ∷ []) }
+    ensures text { OnOk result (text.new.items ≡ text.old.items ++ line_feed ∷ []) }
+    ensures front { StartsWith text.new.items text.old.items }
 {
     text.push(LINE_FEED)?;
     Ok(())
@@ -67,7 +73,8 @@ pub fn end_row(text: &mut Vec<u8>) -> Result<(), AllocError>
 /// Adds the fields after the first, each after a separator, and the line feed.
 fn push_others(text: &mut Vec<u8>, fields: &Fields, sep: u8) -> Result<(), AllocError>
     requires { 0 < length fields.now }
-    ensures { OnOk result (text.new.items ≡ text.old.items ++ text_of_others sep (drop 1 fields.now)) }
+    ensures text { OnOk result (text.new.items ≡ text.old.items ++ text_of_others sep (drop 1 fields.now)) }
+    ensures front { StartsWith text.new.items text.old.items }
 {
     for i in 1..fields.width() {
         push_next_field(text, fields.at(i), sep)?;
@@ -104,7 +111,8 @@ fn begins_with_mark(field: &[u8]) -> bool
 
 /// Adds the field, in quotes if it is to be.
 fn push_field(text: &mut Vec<u8>, field: &[u8], in_quotes: bool) -> Result<(), AllocError>
-    ensures { OnOk result (text.new.items ≡ text.old.items ++ field_text in_quotes field.now) }
+    ensures text { OnOk result (text.new.items ≡ text.old.items ++ field_text in_quotes field.now) }
+    ensures front { StartsWith text.new.items text.old.items }
 {
     if !in_quotes {
         return text.extend_from_slice(field);
@@ -117,7 +125,8 @@ fn push_field(text: &mut Vec<u8>, field: &[u8], in_quotes: bool) -> Result<(), A
 
 /// Adds the field with each quote twice.
 fn push_doubled(text: &mut Vec<u8>, field: &[u8]) -> Result<(), AllocError>
-    ensures { OnOk result (text.new.items ≡ text.old.items ++ doubled field.now) }
+    ensures text { OnOk result (text.new.items ≡ text.old.items ++ doubled field.now) }
+    ensures front { StartsWith text.new.items text.old.items }
 {
     let mut from = 0;
     while from < field.len() {
@@ -134,6 +143,7 @@ fn push_to_quote(text: &mut Vec<u8>, field: &[u8]) -> Result<usize, AllocError>
     ensures within { IfOk result (λ count. count ≤ length field.now) }
     ensures pushed { IfOk result (λ count.
         text.new.items ++ doubled (drop count field.now) ≡ text.old.items ++ doubled field.now) }
+    ensures front { StartsWith text.new.items text.old.items }
 {
     let run = before_quote(field);
     text.extend_from_slice(&field[..run])?;

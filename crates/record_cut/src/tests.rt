@@ -386,6 +386,39 @@ fn a_row_is_quoted_only_where_it_must_be(rt: HostRuntime) -> Result<(), Fail> {
     Ok(())
 }
 
+/// One field, a few, more than a byte counts, and the most that a record can have.
+#[test]
+fn records_of_many_fields_are_cut_and_written(rt: HostRuntime) -> Result<(), Fail> {
+    for (first, width) in [
+        (b"a".as_slice(), 1),
+        (b"a", 4),
+        (b"a", 256),
+        (b"a", 257),
+        (b"", 65_536),
+    ] {
+        let mut text = first.to_vec(rt.alloc())?;
+        for _ in 1..width {
+            text.push(b';')?;
+        }
+        text.push(b'\n')?;
+        let taken = Cutter::new(rt.alloc(), b';').feed_slice(text.as_slice());
+        assert_eq!(rt; taken.count, text.len());
+        let fields = taken.answer?.ok_or("no record")?;
+        let mut copy = Fields::new(rt.alloc());
+        for i in 0..fields.width() {
+            assert!(rt; copy.width() < u32::MAX);
+            copy.push(fields.field(i).unwrap_or(b"?"))?;
+        }
+        assert_eq!(rt; copy.width(), width);
+        assert!(rt; copy.width() > 0);
+        assert_eq!(rt;
+            row_text(rt.alloc(), &copy, b';')?.as_slice(),
+            text.as_slice()
+        );
+    }
+    Ok(())
+}
+
 #[test]
 fn fields_are_read_as_they_were_pushed(rt: HostRuntime) -> Result<(), Fail> {
     let long = vec![in rt.alloc(); b'"'; 70_000]?;

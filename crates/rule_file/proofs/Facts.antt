@@ -15,7 +15,8 @@ use Rattle.rule_keys.specs.declared.key.TableKind.TheVariants as table
 use Rattle.rule_keys.specs.declared.key.Kind.TheVariants.{Name}
 use Rattle.rule_keys.specs.declared.key.Absent.TheVariants.{Refused}
 use Rattle.rule_keys.specs.declared.key.Key.{Key}
-use Rattle.rule_keys.specs.declared.limits.TheConstants.{MOST_DECIMALS, MOST_HOLD, MOST_PER, MOST_WEIGHT, MOST_PRICE, MOST_MILLIONTHS}
+use Rattle.fix_point.specs.declared.rate.TheConstants.{MOST_MILLIONTHS, MOST_PER}
+use Rattle.rule_keys.specs.declared.limits.TheConstants.{MOST_DECIMALS, MOST_HOLD, MOST_WEIGHT, MOST_PRICE}
 use Rattle.rule_keys.specs.Entries.{Meaning, number, name, chosen, nothing, meaning_at, number_in, name_in, form_in, separator_in, extra_in, number_at, name_at, form_at, separator_at, extra_at, IsWithin, IsName, IsMeant, IsOfKind, MayLack, CanStandAt, Fit}
 use Rattle.rule_keys.specs.Keys.{key_of, keys_of, price_key}
 use Rattle.rule_keys.specs.Words.{words, Means}

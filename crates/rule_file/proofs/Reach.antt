@@ -9,8 +9,7 @@ use Rattle.rule_keys.specs.declared.key.TableKind.{TableKind}
 use Rattle.rule_keys.specs.declared.key.TableKind.TheVariants.{Speed, Drift}
 use Rattle.rule_keys.specs.declared.read.Scale.{Scale}
 use Rattle.rule_keys.specs.Keys.{checks_of}
-use Rattle.rule_keys.specs.Table.{Passes}
-use Rattle.rule_keys.specs.Table as Keys
+use Rattle.rule_keys.specs.Table.{Passes, rate_of}
 use Rattle.rule_file.specs.declared.fault.RuleFault.{RuleFault}
 use Rattle.rule_file.specs.declared.draft.Draft.{Draft}
 use Rattle.rule_file.specs.declared.rules.Format.{Format}
@@ -40,7 +39,7 @@ rules_pass scale number (rule ∷ tables) (entry ∷ read) reads =
     (rw reads.0 (reads_passes scale rule.0 rule.1 entry.1 reads.1), rules_pass scale (number + 1) tables read reads.2)
 
 pub within_reach : (d : ℕ) (z per window span : ℤ) (rate : Rate) → z ≡ rate.millionths → per ≡ pos rate.per → window ≡ span
-    → Keys.IsInReach d z per window → IsInReach d rate span
+    → IsInReach d (rate_of z per) window → IsInReach d rate span
 within_reach d z per window span rate is_z is_per is_window reaches = rw (is_z, is_per, is_window) at reaches
 
 pub speed_reaches : (d : ℕ) (entries : Entries) (rule : SpeedRule) → IsSpeed entries rule → PassesAll d Speed entries → AreInReach d rule.min rule.max rule.window

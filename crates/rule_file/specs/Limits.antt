@@ -2,10 +2,11 @@
 use Rattle.std.specs.Prelude.{◌≡◌, ℕ, ◌≤◌, ℤ, pos, neg_ℤ, ◌≤ℤ◌, IsTrue}
 use Rattle.words.specs.Separators.{is_separator}
 use Rattle.fix_point.specs.declared.rate.Rate.{Rate}
+use Rattle.fix_point.specs.declared.rate.TheConstants.{MOST_SPAN}
 use Rattle.fix_point.specs.Rates.{IsRate, IsInReach}
 use Rattle.fix_point.specs.declared.scale.TheConstants.{MOST_UNITS}
 use Rattle.time_text.specs.declared.form.TheConstants.{MOST_TICKS}
-use Rattle.rule_keys.specs.declared.limits.TheConstants.{MOST_DECIMALS, MOST_HOLD, MOST_SPAN}
+use Rattle.rule_keys.specs.declared.limits.TheConstants.{MOST_DECIMALS, MOST_HOLD}
 
 pub record IsFormat (d sep held : ℕ) : Type 0 where
   pub decimals : d ≤ MOST_DECIMALS

@@ -7,17 +7,6 @@ use rule_keys::{Entries, KeyName};
 use sequence::Sequence;
 use std::alloc::{AllocError, Global};
 
-/// A copy of a name.
-pub(crate) fn owned(alloc: Global, text: &[u8]) -> Result<Name, AllocError>
-    ensures { IfOk result (λ name. name ≡ text.now) }
-{
-    let mut name = Sequence::new(alloc);
-    for byte in text {
-        name.push(*byte)?;
-    }
-    Ok(name)
-}
-
 /// A copy of the name at a key.
 pub(crate) fn name_from(
     alloc: Global,
@@ -27,7 +16,7 @@ pub(crate) fn name_from(
     requires { IsSome (name_at key entries.now) }
     ensures { IfOk result (λ name. name_at key entries.now ≡ Some name) }
 {
-    owned(alloc, entries.name(key).unwrap())
+    Sequence::from_slice(alloc, entries.name(key).unwrap())
 }
 
 /// A copy of the name at a key, if there is one.
@@ -39,7 +28,7 @@ pub(crate) fn optional_name(
     ensures { IfOk result (λ name. name_at key entries.now ≡ name) }
 {
     match entries.name(key) {
-        Some(text) => Ok(Some(owned(alloc, text)?)),
+        Some(text) => Ok(Some(Sequence::from_slice(alloc, text)?)),
         None => Ok(None),
     }
 }

@@ -304,24 +304,64 @@ fn rules_of_all_kinds(rt: HostRuntime) -> Result<(), Fail> {
     Ok(())
 }
 
+/// The times and rates of the drift rule among the rules of all kinds.
+const DRIFT: &str = "min = -2\nmax = \"2\"\nper = 3600\nover = 60\nwindow = 600";
+
+/// A part of the rules of all kinds, what is put in its place, and the fault with the number of the rule that is to
+/// blame: first what stands at a key of each kind, then what is looked at once its keys are read.
+const FAULTS_OF_EACH_KIND: [(&str, &str, RuleCause, u32); 16] = [
+    ("sensor = \"c\"", "sensor = 1", WrongKind, 2),
+    ("most = \"1.5\"", "most = \"1.55\"", BadNumber, 3),
+    ("over = 60", "over = 601", Order, 4),
+    (
+        "sensor = \"b\"\n[[drift]]",
+        "from = 1\n[[drift]]",
+        MissingKey,
+        5,
+    ),
+    ("from = 5", "from = 10", Order, 6),
+    ("weight = 3", "weight = 1001", OutOfLimit, 7),
+    ("second = \"b\"", "second = \"a\"", SameSensor, 8),
+    ("min = 0\nmax = 1", "min = 2\nmax = 1", Order, 1),
+    (DRIFT, "min = 3\nmax = 2\nover = 60\nwindow = 600", Order, 4),
+    (
+        DRIFT,
+        "min = 0\nmax = 1000000000\nover = 1\nwindow = 1000000",
+        ReachTooLarge,
+        4,
+    ),
+    (
+        DRIFT,
+        "min = -1000000000\nmax = 0\nover = 1\nwindow = 1000000",
+        ReachTooLarge,
+        4,
+    ),
+    (
+        "sensor = \"b\"\n[[drift]]",
+        "sensor = \"b\"\nmin = 2\nmax = 1\n[[drift]]",
+        Order,
+        5,
+    ),
+    (
+        "sensor = \"b\"\n[[drift]]",
+        "sensor = \"b\"\nfrom = 2\nto = 1\n[[drift]]",
+        Order,
+        5,
+    ),
+    ("weight = 3", "weight = 3\nfrom = 2\nto = 1", Order, 7),
+    ("min = -1\nmax = 1", "min = 2\nmax = 1", Order, 8),
+    (
+        "second = \"b\"\nmin = -1\nmax = 1",
+        "second = \"a\"\nmin = 2\nmax = 1",
+        Order,
+        8,
+    ),
+];
+
 /// The rule that is to blame, of each kind.
 #[test]
-fn rules_are_numbered_kind_by_kind(rt: HostRuntime) -> Result<(), Fail> {
-    let rows = [
-        ("sensor = \"c\"", "sensor = 1", WrongKind, 2),
-        ("most = \"1.5\"", "most = \"1.55\"", BadNumber, 3),
-        ("over = 60", "over = 601", Order, 4),
-        (
-            "sensor = \"b\"\n[[drift]]",
-            "from = 1\n[[drift]]",
-            MissingKey,
-            5,
-        ),
-        ("from = 5", "from = 10", Order, 6),
-        ("weight = 3", "weight = 1001", OutOfLimit, 7),
-        ("second = \"b\"", "second = \"a\"", SameSensor, 8),
-    ];
-    for (part, other, cause, rule) in rows {
+fn faults_of_each_kind(rt: HostRuntime) -> Result<(), Fail> {
+    for (part, other, cause, rule) in FAULTS_OF_EACH_KIND {
         let text = changed(rt.alloc(), MIXED, part, other)?;
         assert_eq!(rt;
             fault_of(rt.alloc(), text.as_str()),
@@ -332,79 +372,30 @@ fn rules_are_numbered_kind_by_kind(rt: HostRuntime) -> Result<(), Fail> {
     Ok(())
 }
 
-/// What is looked at once the keys of a rule are read, of each kind.
-#[test]
-fn checks_of_each_kind(rt: HostRuntime) -> Result<(), Fail> {
-    let drift = "min = -2\nmax = \"2\"\nper = 3600\nover = 60\nwindow = 600";
-    let rows = [
-        ("min = 0\nmax = 1", "min = 2\nmax = 1", Order, 1),
-        (drift, "min = 3\nmax = 2\nover = 60\nwindow = 600", Order, 4),
-        (
-            drift,
-            "min = 0\nmax = 1000000000\nover = 1\nwindow = 1000000",
-            ReachTooLarge,
-            4,
-        ),
-        (
-            drift,
-            "min = -1000000000\nmax = 0\nover = 1\nwindow = 1000000",
-            ReachTooLarge,
-            4,
-        ),
-        (
-            "sensor = \"b\"\n[[drift]]",
-            "sensor = \"b\"\nmin = 2\nmax = 1\n[[drift]]",
-            Order,
-            5,
-        ),
-        (
-            "sensor = \"b\"\n[[drift]]",
-            "sensor = \"b\"\nfrom = 2\nto = 1\n[[drift]]",
-            Order,
-            5,
-        ),
-        ("weight = 3", "weight = 3\nfrom = 2\nto = 1", Order, 7),
-        ("min = -1\nmax = 1", "min = 2\nmax = 1", Order, 8),
-        (
-            "second = \"b\"\nmin = -1\nmax = 1",
-            "second = \"a\"\nmin = 2\nmax = 1",
-            Order,
-            8,
-        ),
-    ];
-    for (part, other, cause, rule) in rows {
-        let text = changed(rt.alloc(), MIXED, part, other)?;
-        assert_eq!(rt;
-            fault_of(rt.alloc(), text.as_str()),
-            fault(cause, rule),
-            "{other}"
-        );
-    }
-    Ok(())
-}
+/// The forms of times, and a time in each with its tick.
+const FORMS: [(&str, TimeForm, &str, i64); 6] = [
+    ("s", TimeForm::Sec, "7", 7_000_000_000),
+    ("ms", TimeForm::Milli, "7", 7_000_000),
+    ("us", TimeForm::Micro, "7", 7_000),
+    ("ns", TimeForm::Nano, "7", 7),
+    (
+        "instant",
+        TimeForm::Instant,
+        "\"1970-01-01T01:00:07+01:00\"",
+        7_000_000_000,
+    ),
+    (
+        "civil",
+        TimeForm::Civil,
+        "\"1970-01-01 00:00:07\"",
+        7_000_000_000,
+    ),
+];
 
 /// Each form of time, with a time in it, each separator and each way with extra decimals.
 #[test]
 fn each_word_means_its_value(rt: HostRuntime) -> Result<(), Fail> {
-    let forms = [
-        ("s", TimeForm::Sec, "7", 7_000_000_000),
-        ("ms", TimeForm::Milli, "7", 7_000_000),
-        ("us", TimeForm::Micro, "7", 7_000),
-        ("ns", TimeForm::Nano, "7", 7),
-        (
-            "instant",
-            TimeForm::Instant,
-            "\"1970-01-01T01:00:07+01:00\"",
-            7_000_000_000,
-        ),
-        (
-            "civil",
-            TimeForm::Civil,
-            "\"1970-01-01 00:00:07\"",
-            7_000_000_000,
-        ),
-    ];
-    for (word, form, from, tick) in forms {
+    for (word, form, from, tick) in FORMS {
         let text = format!(in rt.alloc();
             "[format]\ndecimals = 0\nform = \"{word}\"\n[[trust]]\nsensor = \"x\"\nfrom = {from}\n"
         )?;
@@ -426,25 +417,27 @@ fn each_word_means_its_value(rt: HostRuntime) -> Result<(), Fail> {
     Ok(())
 }
 
+/// A part of the base rules, what is put in its place, and the fault with the number of the rule.
+const CAUSES: [(&str, &str, RuleCause, u32); 13] = [
+    ("[[speed]]", "[[speed]", Syntax, 0),
+    ("window", "colour = 1\nwindow", UnknownKey, 1),
+    ("max = 1\n", "", MissingKey, 1),
+    ("max = 1", "max = 0.5", WrongKind, 1),
+    ("max = 1", "max = \"1,5\"", BadNumber, 1),
+    ("min = -1", "min = 2", Order, 1),
+    (BASE, FAR, ReachTooLarge, 1),
+    (BASE, WEIGHTLESS, OutOfLimit, 2),
+    (BASE, SAME, SameSensor, 1),
+    ("[format]", "[[format]]", WrongKind, 0),
+    ("decimals = 0", "decimals = 7", OutOfLimit, 0),
+    ("[format]", "zone = 1\n[format]", UnknownKey, 0),
+    (BASE, "", MissingKey, 0),
+];
+
 /// A file for each cause: no refusal is told as want of memory.
 #[test]
 fn each_cause_once(rt: HostRuntime) -> Result<(), Fail> {
-    let rows = [
-        ("[[speed]]", "[[speed]", Syntax, 0),
-        ("window", "colour = 1\nwindow", UnknownKey, 1),
-        ("max = 1\n", "", MissingKey, 1),
-        ("max = 1", "max = 0.5", WrongKind, 1),
-        ("max = 1", "max = \"1,5\"", BadNumber, 1),
-        ("min = -1", "min = 2", Order, 1),
-        (BASE, FAR, ReachTooLarge, 1),
-        (BASE, WEIGHTLESS, OutOfLimit, 2),
-        (BASE, SAME, SameSensor, 1),
-        ("[format]", "[[format]]", WrongKind, 0),
-        ("decimals = 0", "decimals = 7", OutOfLimit, 0),
-        ("[format]", "zone = 1\n[format]", UnknownKey, 0),
-        (BASE, "", MissingKey, 0),
-    ];
-    for (part, other, cause, rule) in rows {
+    for (part, other, cause, rule) in CAUSES {
         let text = changed(rt.alloc(), BASE, part, other)?;
         assert_eq!(rt;
             fault_of(rt.alloc(), text.as_str()),
@@ -545,5 +538,87 @@ fn prices_that_are_refused(rt: HostRuntime) -> Result<(), Fail> {
 fn a_file_of_the_greatest_length_is_read(rt: HostRuntime) -> Result<(), Fail> {
     let bytes = base_of_length(rt.alloc(), 1_048_576)?;
     assert_eq!(rt; read_rules(rt.alloc(), bytes.as_slice())?.count(), 1);
+    Ok(())
+}
+
+/// A part of the base rules, what is put in its place, and the cause to refuse it with the number of the rule: the
+/// greatest of each that is read, and the next one. A rate of 10^9 in a second reaches 4*10^15 in 4,000,000 seconds.
+const LIMITS: [(&str, &str, Option<RuleCause>, u32); 11] = [
+    ("decimals = 0", "decimals = 0\nhold = 20000", None, 0),
+    (
+        "decimals = 0",
+        "decimals = 0\nhold = 20001",
+        Some(OutOfLimit),
+        0,
+    ),
+    ("window = 10", "window = 100000000", None, 0),
+    ("window = 10", "window = 100000001", Some(BadNumber), 1),
+    (
+        "max = 1\nper = 1\nwindow = 10",
+        "max = 1000000000\nwindow = 1",
+        None,
+        0,
+    ),
+    (
+        "max = 1\nper = 1\nwindow = 10",
+        "max = 1000000001\nwindow = 1",
+        Some(BadNumber),
+        1,
+    ),
+    (
+        "max = 1\nper = 1\nwindow = 10",
+        "max = 1000000000\nwindow = 4000000",
+        None,
+        0,
+    ),
+    (
+        "max = 1\nper = 1\nwindow = 10",
+        "max = 1000000000\nwindow = \"4000000.000000001\"",
+        Some(ReachTooLarge),
+        1,
+    ),
+    (
+        "window = 10",
+        "window = 10\n[[range]]\nsensor = \"y\"\nmax = 1000000000000000",
+        None,
+        0,
+    ),
+    (
+        "window = 10",
+        "window = 10\n[[range]]\nsensor = \"y\"\nmax = 1000000000000001",
+        Some(BadNumber),
+        2,
+    ),
+    (
+        "window = 10",
+        "window = 10\n[[range]]\nsensor = \"y\"\nmax = 9223372036854775807",
+        Some(BadNumber),
+        2,
+    ),
+];
+
+/// Numbers at their limits, and names of no byte, one and many.
+#[test]
+fn numbers_and_names_at_their_limits(rt: HostRuntime) -> Result<(), Fail> {
+    for (part, other, cause, rule) in LIMITS {
+        let text = changed(rt.alloc(), BASE, part, other)?;
+        let found = fault_of(rt.alloc(), text.as_str());
+        assert_eq!(rt;
+            found,
+            cause.map(|cause| RuleFault { cause, rule }),
+            "{other}"
+        );
+    }
+    for length in [0, 1, 1_000] {
+        let mut name = String::new(rt.alloc());
+        for _byte in 0..length {
+            name.push_str("n")?;
+        }
+        let sensor = format!(in rt.alloc(); "sensor = \"{name}\"")?;
+        let text = changed(rt.alloc(), BASE, "sensor = \"x\"", sensor.as_str())?;
+        let rules = read_rules(rt.alloc(), text.as_bytes())?;
+        let found = rules.speeds.get(0).map(|rule| rule.sensor.bytes());
+        assert_eq!(rt; found, Some(name.as_bytes()), "{length}");
+    }
     Ok(())
 }

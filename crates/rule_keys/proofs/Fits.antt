@@ -1,5 +1,5 @@
 -- What is read at a key is of the key's kind, so that the reach of a rate can be reckoned.
-use Rattle.std.proofs.Common.{◌≡◌, ℕ, zero, suc, ◌*◌, ◌^◌, ◌≤◌, ℤ, pos, neg_ℤ, ◌≤ℤ◌, Bool, true, false, List, [], ◌∷◌, length, Ok, Option, Some, None, unsigned_abs, refl, inl, inr, codes, arith, rules, if◌then◌else◌}
+use Rattle.std.proofs.Common.{◌≡◌, ℕ, zero, suc, ◌*◌, ◌^◌, ◌≤◌, ℤ, pos, neg_ℤ, ◌≤ℤ◌, Bool, true, false, List, [], ◌∷◌, Ok, Option, Some, None, unsigned_abs, refl, inl, inr, codes, arith, rules, if◌then◌else◌}
 use Rattle.std.proofs.lemmas.Int.{ints}
 use Rattle.std.specs.Fmt.{signed_decimal}
 use Rattle.std.specs.List.{AllByRecursion}
@@ -25,7 +25,7 @@ use Rattle.rule_keys.specs.declared.key.Absent.{Absent}
 use Rattle.rule_keys.specs.declared.key.Absent.TheVariants.{Refused, Number, Chosen, Nothing}
 use Rattle.rule_keys.specs.declared.key.Key.{Key}
 use Rattle.rule_keys.specs.declared.read.Scale.{Scale}
-use Rattle.rule_keys.specs.declared.limits.TheConstants.{MOST_MILLIONTHS, MOST_PER, MOST_SPAN}
+use Rattle.fix_point.specs.declared.rate.TheConstants.{MOST_MILLIONTHS, MOST_PER, MOST_SPAN}
 use Rattle.rule_keys.specs.Entries.{Meaning, number, name, chosen, nothing, is_same_key, meaning_at, number_at, number_in, IsWithin, IsMeant, IsOfKind, MayLack, CanStandAt, Fit}
 use Rattle.rule_keys.specs.Keys.{key_of, keys_of, checks_of}
 use Rattle.rule_keys.specs.Table.{ReadsAbsent, ReadsFound, ReadsKeys, Reads}

@@ -22,10 +22,10 @@ use Rattle.rule_keys.specs.declared.read.Scale.{Scale}
 use Rattle.fix_point.specs.declared.scale.TheConstants.{MOST_UNITS}
 use Rattle.rule_keys.specs.declared.key.Chosen.{Chosen}
 use Rattle.rule_keys.specs.declared.key.Chosen.TheVariants.{Form, Separator, Extra}
-use Rattle.rule_keys.specs.declared.limits.TheConstants.{MOST_MILLIONTHS, MOST_SPAN}
+use Rattle.fix_point.specs.declared.rate.TheConstants.{MOST_MILLIONTHS, MOST_SPAN}
 use Rattle.rule_keys.specs.Entries.{Meaning, number, name, chosen, nothing}
 use Rattle.rule_keys.specs.Words.{words, Means}
-use Rattle.rule_keys.specs.Values.{Answers, AtLeast, ReadsWithin, ReadsWhole, ReadsScaledWhole, ReadsScaledText, ReadsScaled, ReadsTime, ReadsInteger, ReadsMoment, IsMeaningOf, ReadsChosen, ReadsWord, ReadsNumber, ReadsName, AsNumber, ReadsValue}
+use Rattle.rule_keys.specs.Values.{ValueOrCause, AtLeast, ReadsWithin, ReadsWhole, ReadsScaledWhole, ReadsScaledText, ReadsScaled, ReadsTime, ReadsInteger, ReadsMoment, IsMeaningOf, ReadsChosen, ReadsWord, ReadsNumber, ReadsName, AsNumber, ReadsValue}
 
 -- what is proved of number texts and of time texts
 abbrev pub NumbersAreOne : Type 0
@@ -42,7 +42,7 @@ same_value one other e = cc
 no_cause : {A : Type 0} (one : A) (found : KeyCause) → Ok one ≡ Err found → ⊥
 no_cause one found e = absurd cc
 
-answers_one : {A : Type 0} (Good : A → Type 0) (cause : KeyCause) (Bad : Type 0) → ((one other : A) → Good one → Good other → one ≡ other) → ((one : A) → Good one → Bad → ⊥) → HasOne (Answers Good cause Bad)
+answers_one : {A : Type 0} (Good : A → Type 0) (cause : KeyCause) (Bad : Type 0) → ((one other : A) → Good one → Good other → one ≡ other) → ((one : A) → Good one → Bad → ⊥) → HasOne (ValueOrCause Good cause Bad)
 answers_one Good cause Bad same apart (Ok one) (Ok other) p q = ap Ok (same one other p q)
 answers_one Good cause Bad same apart (Ok one) (Err found) p q = absurd (apart one p q.1)
 answers_one Good cause Bad same apart (Err found) (Ok other) p q = absurd (apart other q p.1)

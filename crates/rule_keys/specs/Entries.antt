@@ -14,7 +14,7 @@ use Rattle.rule_keys.specs.declared.key.Kind.TheVariants.{Whole, Value, Amount, 
 use Rattle.rule_keys.specs.declared.key.Absent.{Absent}
 use Rattle.rule_keys.specs.declared.key.Absent.TheVariants.{Refused, Number, Chosen as ChosenWord, Nothing}
 use Rattle.rule_keys.specs.declared.key.Key.{Key}
-use Rattle.rule_keys.specs.declared.limits.TheConstants.{MOST_MILLIONTHS, MOST_SPAN}
+use Rattle.fix_point.specs.declared.rate.TheConstants.{MOST_MILLIONTHS, MOST_SPAN}
 use Rattle.rule_keys.specs.Words.{words, Means}
 
 pub data Meaning : Type 0 where

@@ -2,6 +2,7 @@
 use Rattle.std.specs.Prelude.{pos, neg_ℤ, List, [], ◌∷◌, ◌++◌}
 use Rattle.fix_point.specs.declared.scale.Extra.TheVariants as extra
 use Rattle.fix_point.specs.declared.scale.TheConstants.{MOST_UNITS}
+use Rattle.fix_point.specs.declared.rate.TheConstants.{MOST_PER}
 use Rattle.time_text.specs.declared.form.TimeForm.TheVariants.{Sec}
 use Rattle.time_text.specs.declared.form.TheConstants.{MOST_TICKS}
 use Rattle.rule_keys.specs.declared.key.TableKind.{TableKind}
@@ -17,7 +18,7 @@ use Rattle.rule_keys.specs.declared.key.Absent.TheVariants.{Refused, Number, Cho
 use Rattle.rule_keys.specs.declared.key.Check.{Check}
 use Rattle.rule_keys.specs.declared.key.Check.TheVariants.{Order, Reach, Differ}
 use Rattle.rule_keys.specs.declared.key.Key.{Key}
-use Rattle.rule_keys.specs.declared.limits.TheConstants.{MOST_DECIMALS, MOST_HOLD, MOST_PER, MOST_WEIGHT, MOST_PRICE}
+use Rattle.rule_keys.specs.declared.limits.TheConstants.{MOST_DECIMALS, MOST_HOLD, MOST_WEIGHT, MOST_PRICE}
 
 abbrev pub key_of : KeyName → Kind → Absent → Key
 key_of name kind absent = record { name = name; kind = kind; absent = absent }

@@ -1,7 +1,9 @@
 -- To be believed: what a table of a rule file is read as: its entries, or the first cause to refuse it.
-use Rattle.std.specs.Prelude.{◌≡◌, ◌≢◌, ◌⊎◌, ℕ, ◌*◌, ◌^◌, ◌≤◌, ℤ, ◌≤ℤ◌, List, [], ◌∷◌, map, Option, Some, None, Result, Ok, Err, unsigned_abs, Contains}
+use Rattle.std.specs.Prelude.{◌≡◌, ◌≢◌, ◌⊎◌, ℕ, ℤ, ◌≤ℤ◌, List, [], ◌∷◌, map, Option, Some, None, Result, Ok, Err, unsigned_abs, Contains}
 use Rattle.std.specs.List.{AllByRecursion}
 use Rattle.toml.specs.Data.{Data, Members, no_members, member, get_member}
+use Rattle.fix_point.specs.declared.rate.Rate.{Rate}
+use Rattle.fix_point.specs.Rates.{IsInReach}
 use Rattle.rule_keys.specs.declared.cause.KeyCause.{KeyCause}
 use Rattle.rule_keys.specs.declared.cause.KeyCause.TheVariants.{UnknownKey, MissingKey, ReachTooLarge, SameSensor}
 use Rattle.rule_keys.specs.declared.cause.KeyCause.TheVariants as cause
@@ -14,7 +16,6 @@ use Rattle.rule_keys.specs.declared.key.Check.{Check}
 use Rattle.rule_keys.specs.declared.key.Check.TheVariants.{Order, Reach, Differ}
 use Rattle.rule_keys.specs.declared.key.Key.{Key}
 use Rattle.rule_keys.specs.declared.read.Scale.{Scale}
-use Rattle.rule_keys.specs.declared.limits.TheConstants.{MOST_REACH}
 use Rattle.rule_keys.specs.Entries.{Meaning, number, chosen, nothing, number_at, name_at}
 use Rattle.rule_keys.specs.Keys.{keys_of, checks_of}
 use Rattle.rule_keys.specs.Values.{ReadsValue}
@@ -50,13 +51,13 @@ ReadsKeys scale given (key ∷ keys) (Err cause) =
     ReadsKey scale given key (Err cause)
     ⊎ ((meaning : Meaning) × ReadsKey scale given key (Ok meaning) × ReadsKeys scale given keys (Err cause))
 
--- a rate of so many millionths for each `per` seconds allows at most 4·10^15 units of 10^-d within the window
-abbrev pub IsInReach : ℕ → ℤ → ℤ → ℤ → Type 0
-IsInReach d millionths per window = unsigned_abs millionths * 10 ^ d * unsigned_abs window ≤ MOST_REACH * unsigned_abs per
+-- the rate of so many millionths for each `per` seconds
+abbrev pub rate_of : ℤ → ℤ → Rate
+rate_of millionths per = record { millionths = millionths; per = unsigned_abs per }
 
 abbrev pub Passes : ℕ → List (KeyName × Meaning) → Check → Type 0
 Passes d entries (Order low high) = number_at low entries ≤ℤ number_at high entries
-Passes d entries (Reach rate) = IsInReach d (number_at rate entries) (number_at Per entries) (number_at Window entries)
+Passes d entries (Reach rate) = IsInReach d (rate_of (number_at rate entries) (number_at Per entries)) (number_at Window entries)
 Passes d entries (Differ first second) = name_at first entries ≢ name_at second entries
 
 abbrev pub cause_of : Check → KeyCause

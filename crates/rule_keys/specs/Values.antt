@@ -17,15 +17,15 @@ use Rattle.rule_keys.specs.declared.key.Kind.{Kind}
 use Rattle.rule_keys.specs.declared.key.Kind.TheVariants.{Whole, Value, Amount, Rate, Span, Moment, Name, Word}
 use Rattle.rule_keys.specs.declared.key.Choice.{Choice}
 use Rattle.rule_keys.specs.declared.key.Chosen.{Chosen}
-use Rattle.rule_keys.specs.declared.limits.TheConstants.{MOST_MILLIONTHS, MOST_SPAN}
+use Rattle.fix_point.specs.declared.rate.TheConstants.{MOST_MILLIONTHS, MOST_SPAN}
 use Rattle.rule_keys.specs.declared.read.Scale.{Scale}
 use Rattle.rule_keys.specs.Entries.{Meaning, number, name, chosen, nothing}
 use Rattle.rule_keys.specs.Words.{words, Means}
 
 -- The answer is a value that is good, or this cause where something is bad.
-abbrev pub Answers : {A : Type 0} → (A → Type 0) → KeyCause → Type 0 → Result A KeyCause → Type 0
-Answers Good cause Bad (Ok value) = Good value
-Answers Good cause Bad (Err found) = (found ≡ cause) × Bad
+abbrev pub ValueOrCause : {A : Type 0} → (A → Type 0) → KeyCause → Type 0 → Result A KeyCause → Type 0
+ValueOrCause Good cause Bad (Ok value) = Good value
+ValueOrCause Good cause Bad (Err found) = (found ≡ cause) × Bad
 
 -- a number, unless it is less than the least
 abbrev pub AtLeast : ℤ → (Result ℤ KeyCause → Type 0) → Result ℤ KeyCause → Type 0
@@ -35,11 +35,11 @@ AtLeast least Reads (Err cause) = Reads (Err cause) ⊎ ((cause ≡ OutOfLimit) 
 -- what a lower limit makes of an answer
 abbrev pub IsAtLeast : ℤ → Result ℤ KeyCause → Result ℤ KeyCause → Type 0
 IsAtLeast least (Err cause) answer = answer ≡ Err cause
-IsAtLeast least (Ok z) answer = Answers (λ w. (w ≡ z) × (least ≤ℤ z)) OutOfLimit (z <ℤ least) answer
+IsAtLeast least (Ok z) answer = ValueOrCause (λ w. (w ≡ z) × (least ≤ℤ z)) OutOfLimit (z <ℤ least) answer
 
 -- a number within limits
 abbrev pub ReadsWithin : ℤ → ℤ → ℤ → Result ℤ KeyCause → Type 0
-ReadsWithin least most z answer = Answers (λ w. (w ≡ z) × (least ≤ℤ z) × (z ≤ℤ most)) OutOfLimit ((z <ℤ least) ⊎ (most <ℤ z)) answer
+ReadsWithin least most z answer = ValueOrCause (λ w. (w ≡ z) × (least ≤ℤ z) × (z ≤ℤ most)) OutOfLimit ((z <ℤ least) ⊎ (most <ℤ z)) answer
 
 -- a TOML integer within limits
 abbrev pub ReadsWhole : ℕ → ℕ → Data → Result ℤ KeyCause → Type 0
@@ -49,12 +49,12 @@ ReadsWhole least most _ answer = answer ≡ Err WrongKind
 -- so many wholes in units of 10^-d, at most so many
 abbrev pub ReadsScaledWhole : ℕ → ℕ → ℤ → Result ℤ KeyCause → Type 0
 ReadsScaledWhole d most z answer =
-    Answers (λ w. (w ≡ z *ℤ pos (10 ^ d)) × (unsigned_abs w ≤ most)) BadNumber (most < unsigned_abs (z *ℤ pos (10 ^ d))) answer
+    ValueOrCause (λ w. (w ≡ z *ℤ pos (10 ^ d)) × (unsigned_abs w ≤ most)) BadNumber (most < unsigned_abs (z *ℤ pos (10 ^ d))) answer
 
 -- the units of a number text
 abbrev pub ReadsScaledText : ℕ → ℕ → List ℕ → Result ℤ KeyCause → Type 0
 ReadsScaledText d most text answer =
-    Answers (Scaled.Spells text d Refuse (pos most)) BadNumber ((fault : NumFault) × Scaled.Refuses text d Refuse (pos most) fault) answer
+    ValueOrCause (Scaled.Spells text d Refuse (pos most)) BadNumber ((fault : NumFault) × Scaled.Refuses text d Refuse (pos most) fault) answer
 
 -- The number of units of 10^-d: of a TOML integer, which is that many wholes, or of a number text, which has
 -- to be a whole number of them. It is at most so great in size.
@@ -66,7 +66,7 @@ ReadsScaled d most _ answer = answer ≡ Err WrongKind
 -- the ticks of a time text in the form
 abbrev pub ReadsTime : TimeForm → List ℕ → Result ℤ KeyCause → Type 0
 ReadsTime form text answer =
-    Answers (Ticks.Spells form text) BadNumber ((fault : TimeFault) × Ticks.Refuses form text fault) answer
+    ValueOrCause (Ticks.Spells form text) BadNumber ((fault : TimeFault) × Ticks.Refuses form text fault) answer
 
 -- A TOML integer stands for its text where times are numbers.
 abbrev pub ReadsInteger : TimeForm → ℤ → Result ℤ KeyCause → Type 0
@@ -87,7 +87,7 @@ IsMeaningOf some word _ = ⊥
 -- what a word of a list means
 abbrev pub ReadsChosen : Choice → List ℕ → Result Meaning KeyCause → Type 0
 ReadsChosen choice word answer =
-    Answers (IsMeaningOf (words choice) word) OutOfLimit ((c : Chosen) → Means (words choice) word c → ⊥) answer
+    ValueOrCause (IsMeaningOf (words choice) word) OutOfLimit ((c : Chosen) → Means (words choice) word c → ⊥) answer
 
 abbrev pub ReadsWord : Choice → Data → Result Meaning KeyCause → Type 0
 ReadsWord choice (string word) answer = ReadsChosen choice word answer

@@ -4,7 +4,7 @@ use Rattle.rule_keys.specs.declared.key.KeyName.{KeyName}
 use Rattle.rule_keys.specs.declared.key.KeyName.TheVariants.{Per, Window}
 use Rattle.rule_keys.specs.declared.key.Check.{Check}
 use Rattle.rule_keys.specs.declared.key.Check.TheVariants.{Order, Reach, Differ}
-use Rattle.rule_keys.specs.declared.limits.TheConstants.{MOST_MILLIONTHS, MOST_PER, MOST_SPAN}
+use Rattle.fix_point.specs.declared.rate.TheConstants.{MOST_MILLIONTHS, MOST_PER, MOST_SPAN}
 use Rattle.rule_keys.specs.Entries.{Meaning, number_at}
 
 -- the numbers that a check multiplies are so small that the products have room

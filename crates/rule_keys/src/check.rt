@@ -1,13 +1,14 @@
 //! What is looked at once all keys of a table are read.
 ghost use Rattle.std.specs.Prelude.{◌≡◌, ◌≢◌, ◌*◌, ◌^◌, ◌≤◌, ◌↔◌, ◌≤ℤ◌, unsigned_abs, option_map, IsTrue, MatchOption};
 ghost use Rattle.std.specs.List.{AllByRecursion};
-ghost use Rattle.rule_keys.specs.Table.{Fails, Passes, IsInReach, cause_of};
+ghost use Rattle.fix_point.specs.Rates.{IsInReach};
+ghost use Rattle.rule_keys.specs.Table.{Fails, Passes, cause_of, rate_of};
 ghost use Rattle.rule_keys.specs.Within.{HasSmallNumbers};
 
 use crate::cause::KeyCause;
 use crate::entries::Entries;
 use crate::key::{Check, KeyName};
-use crate::limits::{MOST_MILLIONTHS, MOST_PER, MOST_REACH, MOST_SPAN};
+use fix_point::{MOST_MILLIONTHS, MOST_PER, MOST_REACH, MOST_SPAN};
 
 /// The cause of the first check that does not pass.
 pub(crate) fn check_all(d: u32, entries: &Entries, checks: &[Check]) -> Option<KeyCause>
@@ -66,7 +67,7 @@ fn reaches(d: u32, millionths: i64, per: i64, window: i64) -> bool
     requires rate { unsigned_abs millionths ≤ MOST_MILLIONTHS }
     requires per { unsigned_abs per ≤ MOST_PER }
     requires window { unsigned_abs window ≤ MOST_SPAN }
-    ensures { IsTrue result ↔ IsInReach d millionths per window }
+    ensures { IsTrue result ↔ IsInReach d (rate_of millionths per) window }
 {
     let reach = u128::from(millionths.unsigned_abs())
         * 10_u128.pow(d)

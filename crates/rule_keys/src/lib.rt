@@ -17,9 +17,6 @@ pub use cause::KeyCause;
 pub use entries::Entries;
 pub use key::{Absent, Check, Choice, Chosen, Key, KeyName, Kind, TableKind};
 pub use keys::keys_of;
-pub use limits::{
-    MOST_DECIMALS, MOST_HOLD, MOST_MILLIONTHS, MOST_PER, MOST_PRICE, MOST_REACH, MOST_SPAN,
-    MOST_WEIGHT,
-};
+pub use limits::{MOST_DECIMALS, MOST_HOLD, MOST_PRICE, MOST_WEIGHT};
 pub use read::{Scale, an_answer, one_answer, read_table};
 pub use texts::{Word, key_text, words_of};

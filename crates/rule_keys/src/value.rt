@@ -7,10 +7,9 @@ ghost use Rattle.rule_keys.specs.Values.{IsAtLeast, ReadsChosen, ReadsInteger, R
 use crate::cause::KeyCause;
 use crate::entries::Entry;
 use crate::key::{Choice, Kind};
-use crate::limits::{MOST_MILLIONTHS, MOST_SPAN};
 use crate::read::Scale;
 use crate::texts::meaning_of;
-use fix_point::{Extra, MOST_UNITS};
+use fix_point::{Extra, MOST_MILLIONTHS, MOST_SPAN, MOST_UNITS};
 use itoa::Buffer;
 use std::alloc::Global;
 use time_text::{TimeForm, ticks, trimmed_text};

@@ -3,11 +3,9 @@ use Rattle.std.proofs.Common.{◌≡◌, ℕ, ◌*◌, ◌^◌, ◌≤◌, ℤ, 
 use Rattle.std.proofs.lemmas.Int.{ints}
 use Rattle.rule_file.specs.declared.rules.SpeedRule.{SpeedRule}
 use Rattle.rule_file.specs.declared.rules.Rules.{Rules}
-use Rattle.screen_tool.specs.declared.speed.Numbers.{Numbers}
 use Rattle.screen_tool.specs.declared.speed.WholeSpeed.{WholeSpeed}
 use Rattle.screen_tool.specs.Limits.{IsSensorName, IsChange, IsSeconds, IsWithinLimits}
 use Rattle.screen_tool.specs.Narrow.{IsPlain, HasSpeedsAlone, IsWholeSpeed, IsNarrow}
-use Rattle.screen_tool.specs.Numbers.{speed_of}
 
 -- what the rule's own limits and the sizes of the numbers say
 pub limits_from : (sensor : List ℕ) (low high min max : ℤ) (per window : ℕ) → IsSensorName sensor → low ≡ min *ℤ pos (10 ^ 6) → high ≡ max *ℤ pos (10 ^ 6) → low ≤ℤ high → IsChange min → IsChange max → 1 ≤ per → per ≤ 1000000 → IsSeconds window → IsWithinLimits sensor min max per window
@@ -26,28 +24,7 @@ first_is : (rule other : SpeedRule) (speeds : List SpeedRule) → speeds ≡ rul
 first_is rule other speeds one two = ap (λ (xs : List SpeedRule). get_or xs 0 rule) (sym two ∙ one)
 
 -- from the one rule to all rules
-pub narrow_from : (rules : Rules) (rule : SpeedRule) (found : Option Numbers) → IsPlain rules.format → HasSpeedsAlone rules → rules.speeds ≡ rule ∷ [] → MatchOption found ((speed : WholeSpeed) → ¬ IsWholeSpeed rule speed) (λ f. IsWholeSpeed rule (speed_of f)) → MatchOption found ((speed : WholeSpeed) → ¬ IsNarrow rules speed) (λ f. IsNarrow rules (speed_of f))
+pub narrow_from : (rules : Rules) (rule : SpeedRule) (found : Option WholeSpeed) → IsPlain rules.format → HasSpeedsAlone rules → rules.speeds ≡ rule ∷ [] → MatchOption found ((speed : WholeSpeed) → ¬ IsWholeSpeed rule speed) (λ f. IsWholeSpeed rule f) → MatchOption found ((speed : WholeSpeed) → ¬ IsNarrow rules speed) (λ f. IsNarrow rules f)
 narrow_from rules rule None plain alone one numbers = λ speed narrow.
     numbers speed (subst (λ (r : SpeedRule). IsWholeSpeed r speed) (first_is rule narrow.lone.0 rules.speeds one narrow.lone.1) narrow.lone.2)
 narrow_from rules rule (Some f) plain alone one numbers = record { plain = plain; alone = alone; lone = (rule, one, numbers) }
-
--- narrow rules are told by the numbers alone
-pub narrow_same : (rules : Rules) (speed other : WholeSpeed) → IsNarrow rules speed → speed.sensor ≡ other.sensor → speed.min ≡ other.min → speed.max ≡ other.max → speed.per ≡ other.per → speed.window ≡ other.window → IsNarrow rules other
-narrow_same rules speed other narrow sensor min max per window =
-    let whole = narrow.lone.2 in
-    record {
-      plain = narrow.plain;
-      alone = narrow.alone;
-      lone = (
-        narrow.lone.0,
-        narrow.lone.1,
-        record {
-          sensor = whole.sensor ∙ sensor;
-          min = whole.min ∙ ap (λ (n : ℤ). n *ℤ pos (10 ^ 6)) min;
-          max = whole.max ∙ ap (λ (n : ℤ). n *ℤ pos (10 ^ 6)) max;
-          per = whole.per ∙ per;
-          window = whole.window ∙ ap (λ (n : ℕ). pos (n * 10 ^ 9)) window;
-          price = whole.price;
-        },
-      );
-    }

@@ -10,7 +10,6 @@ pub mod Headline
 pub mod Limits
 pub mod Narrow
 pub mod Note
-pub mod Numbers
 pub mod Performance
 pub mod RealEnds
 pub mod Step

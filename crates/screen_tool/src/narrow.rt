@@ -4,9 +4,8 @@ ghost use Rattle.std.specs.Prelude.{◌≡◌, ◌≢◌, ◌↔◌, ◌*◌, �
 ghost use Rattle.std.specs.List.{list_all};
 ghost use Rattle.screen_tool.specs.Limits.{IsSensorName, IsChange, IsSeconds, is_small_letter};
 ghost use Rattle.screen_tool.specs.Narrow.{HasSpeedsAlone, IsFirstColumn, IsNarrow, IsPlain, IsWholeSpeed};
-ghost use Rattle.screen_tool.specs.Numbers.{speed_of};
 
-use crate::speed::{Numbers, WholeSpeed};
+use crate::speed::WholeSpeed;
 use rule_file::{Format, Name, RuleFault, Rules, SpeedRule};
 use sequence::Sequence;
 use std::alloc::{AllocError, Global};
@@ -27,27 +26,13 @@ pub(crate) fn whole_speed(alloc: Global, rules: &Rules) -> Result<Option<WholeSp
         ((speed : WholeSpeed) → ¬ IsNarrow rules.now speed)
         (IsNarrow rules.now)) }
 {
-    let Some(found) = numbers_of(rules) else {
-        return Ok(None);
-    };
-    Ok(Some(WholeSpeed {
-        sensor: Sequence::from_slice(alloc, found.sensor)?,
-        min: found.min,
-        max: found.max,
-        per: found.per,
-        window: found.window,
-    }))
-}
-
-fn numbers_of(rules: &Rules) -> Option<Numbers<'_>>
-    ensures { MatchOption result
-        ((speed : WholeSpeed) → ¬ IsNarrow rules.now speed)
-        (λ found. IsNarrow rules.now (speed_of found)) }
-{
     if !is_plain(&rules.format) || !has_speeds_alone(rules) {
-        return None;
+        return Ok(None);
     }
-    numbers_in(lone(rules.speeds.as_slice())?)
+    match lone(rules.speeds.as_slice()) {
+        Some(rule) => speed_of(alloc, rule),
+        None => Ok(None),
+    }
 }
 
 fn is_plain(format: &Format) -> bool
@@ -92,25 +77,32 @@ fn lone<T>(elements: &[T]) -> Option<&T>
     }
 }
 
-fn numbers_in(rule: &SpeedRule) -> Option<Numbers<'_>>
-    ensures { MatchOption result
+/// The rule in whole units and seconds, if it has them and no price.
+fn speed_of(alloc: Global, rule: &SpeedRule) -> Result<Option<WholeSpeed>, AllocError>
+    ensures { IfOk result (λ found. MatchOption found
         ((speed : WholeSpeed) → ¬ IsWholeSpeed rule.now speed)
-        (λ found. IsWholeSpeed rule.now (speed_of found)) }
+        (IsWholeSpeed rule.now)) }
 {
     let sensor = rule.sensor.bytes();
     if !is_sensor_name(sensor) || rule.min.per > 1_000_000 || rule.price != 0 {
-        return None;
+        return Ok(None);
     }
-    let min = wholes(rule.min.millionths)?;
-    let max = wholes(rule.max.millionths)?;
-    let window = whole_seconds(rule.window)?;
-    Some(Numbers {
-        sensor,
+    let Some(min) = wholes(rule.min.millionths) else {
+        return Ok(None);
+    };
+    let Some(max) = wholes(rule.max.millionths) else {
+        return Ok(None);
+    };
+    let Some(window) = whole_seconds(rule.window) else {
+        return Ok(None);
+    };
+    Ok(Some(WholeSpeed {
+        sensor: Sequence::from_slice(alloc, sensor)?,
         min,
         max,
         per: rule.min.per,
         window,
-    })
+    }))
 }
 
 /// The wholes of so many millionths, if they are at most 1,000,000 in size.

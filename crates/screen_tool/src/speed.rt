@@ -18,14 +18,3 @@ pub struct WholeSpeed {
     pub window: u32,
     pub ghost within_limits: { IsWithinLimits sensor min max per window },
 }
-
-/// A speed rule in whole units and seconds, with the name where the rule has it.
-#[derive(Clone, Copy)]
-pub(crate) struct Numbers<'a> {
-    pub(crate) sensor: &'a [u8],
-    pub(crate) min: i64,
-    pub(crate) max: i64,
-    pub(crate) per: u32,
-    pub(crate) window: u32,
-    ghost within_limits: { IsWithinLimits sensor.now min max per window },
-}

@@ -4,7 +4,7 @@ ghost use Rattle.screen_tool.specs.Ending.{code_of, status_of};
 
 use crate::narrow::RulesFault;
 use crate::step::StepFault;
-use narrow_csv::{TableCause, TableFault};
+use narrow_csv::TableFault;
 use rule_file::RuleFault;
 use std::alloc::AllocError;
 
@@ -135,9 +135,7 @@ impl From<StepFault<TableFault>> for Ending {
 
     fn from(fault: StepFault<TableFault>) -> Ending {
         match fault {
-            StepFault::TooLong => Ending::Ended(Outcome::ReadingsRefused(TableFault::of_the_file(
-                TableCause::FileTooLong,
-            ))),
+            StepFault::TooLong => Ending::Ended(Outcome::ReadingsRefused(TableFault::too_long())),
             StepFault::Refused(fault) => Ending::Ended(Outcome::ReadingsRefused(fault)),
             StepFault::Failed => Ending::ReadFault,
             StepFault::Memory => Ending::Memory,

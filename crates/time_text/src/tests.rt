@@ -1,3 +1,6 @@
+//! Texts of each form as ticks, and each refusal of a form: numbers at the limits, and calendar texts with and
+//! without an offset.
+
 use crate::{TimeFault, TimeForm, ticks};
 
 #[test]
