@@ -29,10 +29,10 @@ use Rattle.bound_graph.proofs.Values.{value_at_node, obeys_is_respects, zero_and
 use Rattle.flow_core.specs.Layout.{FlowNetwork, network_of, reading_arcs, arcs_of, arc_numbered, no_arc, is_unpriced, unpriced_capacity, capacity_at_price, capacity_numbered}
 use Rattle.flow_core.specs.State.{NetworkState, flow_on, residual_of, bound_flows, value}
 use Rattle.flow_core.specs.Views.{reversed, is_residual, is_bare, tight_arcs}
-use Rattle.flow_core.specs.Laws.{SolvedIsBest}
+use Rattle.flow_core.specs.Laws.{FlowIsTight, SolvedIsBest}
 use Rattle.flow_core.proofs.Elements.{zip_at}
 use Rattle.flow_core.proofs.Sizes.{length-arcs_of, length-flows, capacity_of_bound, capacity_of_reading}
-use Rattle.flow_core.proofs.BothWays.{there_by_arc, back_by_arc}
+use Rattle.flow_core.proofs.BothWays.{unpriced_below, there_by_arc, back_by_arc}
 use Rattle.flow_core.proofs.Readings.{inflow, length-inflow, inflow_at, arc_to, arc_from, arc_to_at, arc_from_at, inflow_by_change}
 use Rattle.flow_core.proofs.Duals.{reading_flows, IsDual, dual, first_within, second_within}
 
@@ -70,6 +70,17 @@ are_tight net all =
       back = λ k below some. there_respects net.potentials (tight_arcs net) (2 * k + 1) (reversed (arc_numbered net.network k)) all
           (back_by_arc test arcs k below (or_right (is_bare net k true) (is_residual net k true) (positive (residual_of net k true) some)));
     }
+
+pub flow_tight : FlowIsTight
+flow_tight net arc is solves free some =
+    let tight = are_tight net solves.obeyed in
+    let priced = unpriced_below net.network arc free in
+    let layout = is.layout in
+    let long = layout.priced in
+    let below : arc < length (arcs_of net.network) = omega (arith, length-arcs_of net.network) in
+    let up = tight.free arc below free in
+    let down = tight.back arc below some in
+    omega (arith, ints, up, down)
 
 -- ---- the potentials as a series
 

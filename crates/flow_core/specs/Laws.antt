@@ -1,5 +1,5 @@
 -- To be believed: what a flow network says of the problem that it was made of.
-use Rattle.std.specs.Prelude.{◌≡◌, ℕ, suc, ◌/◌, ◌<◌, ℤ, pos, ◌-ℤ◌, List, length, map, Some, slice_get}
+use Rattle.std.specs.Prelude.{◌≡◌, ℕ, suc, ◌/◌, ◌<◌, true, ℤ, pos, ◌+ℤ◌, ◌-ℤ◌, ◌<ℤ◌, List, length, map, Some, slice_get}
 use Rattle.std.specs.List.{AllByRecursion}
 use Rattle.words.specs.Lists.{Distinct}
 use Rattle.screen_model.specs.declared.place.Place.{Place}
@@ -9,8 +9,8 @@ use Rattle.screen_model.specs.Flow.{pull, IsAdmissible, dual_value}
 use Rattle.screen_model.specs.Best.{IsBest, IsBlocked}
 use Rattle.bound_graph.specs.Values.{value_of, series_of}
 use Rattle.bound_graph.specs.Cycle.{IsNegativeCycle}
-use Rattle.flow_core.specs.Layout.{network_of}
-use Rattle.flow_core.specs.State.{NetworkState, IsNetwork, balance, bound_flows, value}
+use Rattle.flow_core.specs.Layout.{network_of, arc_numbered, is_unpriced}
+use Rattle.flow_core.specs.State.{NetworkState, IsNetwork, balance, flow_on, bound_flows, value}
 use Rattle.flow_core.specs.Views.{bare_arcs}
 use Rattle.flow_core.specs.Solving.{IsSolved}
 
@@ -45,6 +45,11 @@ BalancedIsAdmissible = (problem : Problem) (net : NetworkState) → IsNetworkOf 
 abbrev pub SolvedIsBest : Type 0
 SolvedIsBest = (problem : Problem) (net : NetworkState) → IsNetworkOf problem net → IsSolved net
     → IsBest problem (series_of net.potentials) (bound_flows net) × (value net ≡ pos (cost problem (series_of net.potentials)))
+
+-- In a solved network, where something flows on a bound without a price, the potentials of its ends differ by its cost.
+abbrev pub FlowIsTight : Type 0
+FlowIsTight = (net : NetworkState) (arc : ℕ) → IsNetwork net → IsSolved net → is_unpriced net.network arc ≡ true → pos 0 <ℤ flow_on net arc
+    → value_of net.potentials (arc_numbered net.network arc).head ≡ value_of net.potentials (arc_numbered net.network arc).tail +ℤ (arc_numbered net.network arc).cost
 
 -- A cycle of bounds without a price with a negative sum is a blocked cycle of the bounds, which have half the numbers.
 abbrev pub NegativeCycleIsBlocked : Type 0

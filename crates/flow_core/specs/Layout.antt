@@ -56,7 +56,8 @@ abbrev pub twice : {A : Type 0} → List A → List A
 twice [] = []
 twice (x ∷ xs) = x ∷ (x ∷ twice xs)
 
--- how much can flow on a bound without a price: more than through all readings and all bounds with a price together
+-- how much can flow on a bound without a price: more than the arcs of readings and of bounds with a price can carry out of
+-- any set of nodes together
 abbrev pub unpriced_capacity : FlowNetwork → ℕ
 unpriced_capacity network = sum network.weights + sum network.prices + 1
 

@@ -15,8 +15,7 @@ use std::alloc::{AllocError, Global};
 
 /// The arcs of bounds, and two for each reading, each followed by its reverse.
 ///
-/// The table has room for just these, 32 bytes for each arc with its reverse. The arcs of the bounds, 16 bytes for
-/// each, stand beside it while it is made.
+/// The table is made with room for all of them. The arcs of the bounds stand beside it while it is made.
 pub(crate) fn arcs_both_ways(
     alloc: Global,
     values: &[i64],

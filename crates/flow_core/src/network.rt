@@ -23,8 +23,7 @@ use std::marker::Model;
 /// it less what leaves it, and its potential.
 ///
 /// Arc k is bound k, from its first end to its second; after the bounds come for each reading the arc from node 0 to it
-/// and the arc back. All memory is taken when the network is made: 48 bytes for each arc, of which the graph has 40, 4
-/// bytes more for each bound, and 24 for each reading. No other call takes memory.
+/// and the arc back. All memory is taken when the network is made, some 50 bytes for each arc; no other call takes any.
 #[derive(Drop)]
 pub struct Network {
     /// Arc k under the number 2 * k, and its reverse under 2 * k + 1.
@@ -59,8 +58,8 @@ impl Network {
     /// The network of bounds over readings, in which nothing flows yet.
     ///
     /// A bound of price 0 has no price and may not be broken. Its capacity is the sum of all weights and all prices, and 1
-    /// more; of a bound with a price the capacity is the price, and of both arcs of a reading its weight. Takes the time
-    /// of `arcs_of_bounds`. Fails only where memory runs out.
+    /// more; of a bound with a price the capacity is the price, and of both arcs of a reading its weight. The error
+    /// is that memory ran out. The time is mostly that of `arcs_of_bounds`.
     pub fn new(
         alloc: Global,
         values: &Series,
@@ -230,7 +229,7 @@ impl Network {
         self.potentials[node as usize]
     }
 
-    /// The sum of cost times flow over all arcs, negated. Takes time linear in the arcs.
+    /// The sum of cost times flow over all arcs, negated. Goes over all arcs.
     pub fn value(&self) -> i128
         ensures { result ≡ value self.now }
     {

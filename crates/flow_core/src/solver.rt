@@ -37,7 +37,7 @@ pub trait Solver {
     /// For how many arcs it is prepared.
     ghost prepared_arcs: { Self → ℕ };
 
-    /// Takes the memory to solve a network of so many nodes and arcs. Fails only where memory runs out.
+    /// Takes the memory to solve a network of so many nodes and arcs. The error is that memory ran out.
     fn prepare(&mut self, alloc: Global, nodes: u32, arcs: u32) -> Result<(), AllocError>
         ensures for_nodes { OnOk result (prepared_nodes self.new ≡ nodes) }
         ensures for_arcs { OnOk result (prepared_arcs self.new ≡ arcs) }

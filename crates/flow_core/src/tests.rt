@@ -2,7 +2,7 @@
 ghost use Rattle.std.specs.Prelude.{◌≡◌, ◌≤◌};
 
 use crate::{
-    Network, balanced_everywhere, balanced_is_admissible, negative_cycle_is_blocked,
+    Network, balanced_everywhere, balanced_is_admissible, flow_is_tight, negative_cycle_is_blocked,
     pull_is_balance, solved_is_best,
 };
 use bound_graph::{Arc, ArcList};
@@ -169,6 +169,7 @@ fn a_network_of_nothing(rt: HostRuntime) -> Result<(), Fail> {
     balanced_everywhere();
     balanced_is_admissible();
     solved_is_best();
+    flow_is_tight();
     negative_cycle_is_blocked();
     Ok(())
 }
