@@ -1,0 +1,11 @@
+pub mod Blocked
+pub mod BothWays
+pub mod Building
+pub mod Duals
+pub mod Elements
+pub mod Examples
+pub mod Optimality
+pub mod Pushing
+pub mod Readings
+pub mod Sizes
+pub mod Totals
