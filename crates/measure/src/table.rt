@@ -12,8 +12,11 @@ use std::time::Instant;
 const ROWS: u32 = 200_000;
 
 /// The rules of files with two and with eight columns.
-const RULES: &[u8] = b"[format]\ndecimals = 2\n[[speed]]\nsensor = \"a\"\nmin = -1\nmax = 1\nwindow = 10\n";
-const MORE_RULES: &[u8] = b"[[range]]\nsensor = \"b\"\nmax = 9\n[[range]]\nsensor = \"c\"\nmax = 9\n";
+const RULES: &[u8] =
+    b"[format]\ndecimals = 2\n[[speed]]\nsensor = \"a\"\nmin = -1\nmax = 1\nwindow = 10\n";
+
+const MORE_RULES: &[u8] =
+    b"[[range]]\nsensor = \"b\"\nmax = 9\n[[range]]\nsensor = \"c\"\nmax = 9\n";
 
 /// What is measured.
 #[derive(Clone, Copy, PartialEq)]
@@ -49,7 +52,11 @@ pub fn measure<R: Runtime + AllocGlobal>(rt: &R, way: Way, is_wide: bool) -> io:
         nanos = began.elapsed(rt)?.as_nanos();
         sum = text.len() as u64;
     }
-    println!(rt; "{} {sum} {}", nanos.saturating_mul(1000) / u128::from(ROWS), bytes.len())
+    println!(rt;
+        "{} {sum} {}",
+        nanos.saturating_mul(1000) / u128::from(ROWS),
+        bytes.len()
+    )
 }
 
 /// The values of all readings, added up.
@@ -64,7 +71,11 @@ fn sum_of(table: &Table) -> u64 {
 /// The readings file: a time in seconds, and hundredths in the other columns.
 fn file(alloc: Global, columns: u32) -> Result<Vec<u8>, AllocError> {
     let mut bytes = Vec::new(alloc);
-    bytes.extend_from_slice(if columns == 2 { b"time,a\n".as_slice() } else { b"time,a,n,b,o,p,c,q\n".as_slice() })?;
+    bytes.extend_from_slice(if columns == 2 {
+        b"time,a\n".as_slice()
+    } else {
+        b"time,a,n,b,o,p,c,q\n".as_slice()
+    })?;
     let mut state: u64 = 1;
     for row in 0..ROWS {
         push_text_of(&mut bytes, i128::from(row), 0)?;
