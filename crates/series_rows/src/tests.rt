@@ -385,7 +385,7 @@ fn rows_are_told_with_what_stands_before(rt: HostRuntime) -> Result<(), Fail> {
     let rules = rules_with(alloc, "")?;
     let header = header_of(alloc, &rules, b',', b"time,x,y")??;
     let row = row_of(alloc, &rules, &header, RowsBefore::none(), b',', b"-2,1,")??;
-    let before = seven_rows().after(&row);
+    let before = RowsBefore::new(7, Some(5_000_000_000), 3).after(&row);
     assert!(rt; before.rows() == 8);
     assert!(rt; before.ticks() == Some(-2_000_000_000));
     assert!(rt; before.readings() == 4);
