@@ -1,0 +1,13 @@
+pub mod AHeader
+pub mod ByName
+pub mod CellOf
+pub mod CellsRead
+pub mod HeaderAnswers
+pub mod Kept
+pub mod OneRow
+pub mod Plain
+pub mod ReadAgain
+pub mod Rising
+pub mod RowAnswers
+pub mod RowFacts
+pub mod RowTexts

@@ -1,0 +1,12 @@
+pub mod Before
+pub mod Cells
+pub mod Columns
+pub mod Faults
+pub mod Header
+pub mod Kept
+pub mod Parts
+pub mod ReadBack
+pub mod ReadsRow
+pub mod Row
+pub mod Search
+pub mod Texts
