@@ -1,13 +1,14 @@
 #!/usr/bin/env bash
 # Runs a proved function and its plain twin in turn on the same inputs, and prints the best time of each for
 # one item and the ratio of the proved time to the plain one. `records` runs texts of three forms, each fed byte by
-# byte and by slices. For the blocked chain it also prints the ratio of its proved time to that of the chain that
+# byte and by slices. `table` reads and writes readings files of two and of eight columns, and prints for a row. For the
+# blocked chain it also prints the ratio of its proved time to that of the chain that
 # settles.
 #
-# usage: bench/run.sh units|text_of|ticks|records|settle|blocked [ROUNDS]
+# usage: bench/run.sh units|text_of|ticks|records|table|settle|blocked [ROUNDS]
 set -euo pipefail
 cd "$(dirname "$0")/.."
-what=${1:?usage: bench/run.sh units|text_of|ticks|records|settle|blocked [ROUNDS]}
+what=${1:?usage: bench/run.sh units|text_of|ticks|records|table|settle|blocked [ROUNDS]}
 rounds=${2:-5}
 
 # The blocked chain is settled by the same twin as the other one.
@@ -23,22 +24,29 @@ test -x "$proved" || { tail -n 20 bench/out/build.log; exit 1; }
 
 # compare NAME: both sides in turn, and the best time of each.
 compare() {
-    local name=$1 plain_time plain_sum proved_time proved_sum best_plain= best_proved=
+    local name=$1 plain_time plain_sum proved_time proved_sum bytes best_plain= best_proved=
     for _ in $(seq "$rounds"); do
-        read -r plain_time plain_sum < <("bench/out/$twin" "$name")
-        read -r proved_time proved_sum < <("$proved" "$name")
+        read -r plain_time plain_sum bytes < <("bench/out/$twin" "$name")
+        read -r proved_time proved_sum _ < <("$proved" "$name")
         [ "$plain_sum" = "$proved_sum" ] || { echo "the answers differ: $plain_sum and $proved_sum"; exit 1; }
         [ -n "$best_plain" ] && [ "$best_plain" -le "$plain_time" ] || best_plain=$plain_time
         [ -n "$best_proved" ] && [ "$best_proved" -le "$proved_time" ] || best_proved=$proved_time
     done
     awk -v name="$name" -v plain="$best_plain" -v proved="$best_proved" \
         'BEGIN { printf "%s: plain %.1f ns, proved %.1f ns, ratio %.2f\n", name, plain / 1000, proved / 1000, proved / plain }'
+    # The bytes of a file are told where the items are its rows, of which there are 200,000.
+    [ -z "$bytes" ] || awk -v bytes="$bytes" -v proved="$best_proved" \
+        'BEGIN { printf "%.1f bytes a row, proved %.0f MB/s\n", bytes / 200000, bytes / 200000 * 1000000 / proved }'
     last=$best_proved
 }
 
 case $what in
 records)
     for name in records slices records-quoted slices-quoted records-crlf slices-crlf; do
+        compare "$name"
+    done ;;
+table)
+    for name in table-read-2 table-read-8 table-text-2 table-text-8; do
         compare "$name"
     done ;;
 blocked)

@@ -4,6 +4,7 @@
 mod chain;
 mod records;
 mod settled;
+mod table;
 mod text_of;
 mod texts;
 mod ticks;
@@ -12,6 +13,7 @@ mod units;
 use records::Form;
 use std::rt::Runtime;
 use std::{env, io};
+use table::Way;
 
 fn main(rt: HostRuntime) -> io::Result<()> {
     for word in env::args(&rt)?.skip(1) {
@@ -24,6 +26,10 @@ fn main(rt: HostRuntime) -> io::Result<()> {
             "slices-quoted" => records::measure(&rt, Form::Quoted, true)?,
             "slices-crlf" => records::measure(&rt, Form::CrLf, true)?,
             "settle" => settled::measure(&rt, false)?,
+            "table-read-2" => table::measure(&rt, Way::Read, false)?,
+            "table-read-8" => table::measure(&rt, Way::Read, true)?,
+            "table-text-2" => table::measure(&rt, Way::Write, false)?,
+            "table-text-8" => table::measure(&rt, Way::Write, true)?,
             "text_of" => text_of::measure(&rt)?,
             "ticks" => ticks::measure(&rt)?,
             "units" => units::measure(&rt)?,

@@ -1,0 +1,99 @@
+//! Readings files of 200,000 rows, read and written by `series_csv`.
+
+use crate::texts::{next_hundredths, push_hundredths};
+use fix_point::push_text_of;
+use rule_file::read_rules;
+use series_csv::{Table, read_table, table_text};
+use std::alloc::{AllocError, Global};
+use std::io;
+use std::rt::Runtime;
+use std::time::Instant;
+
+const ROWS: u32 = 200_000;
+
+/// The rules of files with two and with eight columns.
+const RULES: &[u8] =
+    b"[format]\ndecimals = 2\n[[speed]]\nsensor = \"a\"\nmin = -1\nmax = 1\nwindow = 10\n";
+
+const MORE_RULES: &[u8] =
+    b"[[range]]\nsensor = \"b\"\nmax = 9\n[[range]]\nsensor = \"c\"\nmax = 9\n";
+
+/// What is measured.
+#[derive(Clone, Copy, PartialEq)]
+pub enum Way {
+    /// The bytes of a file as a table.
+    Read,
+    /// The text of a table with the values that were read.
+    Write,
+}
+
+/// Prints the picoseconds for a row of a file with two columns, or with eight and three sensors, of which each misses
+/// every third reading; then the sum of the values that were read, or the bytes that were written; and the bytes of the
+/// file.
+pub fn measure<R: Runtime + AllocGlobal>(rt: &R, way: Way, is_wide: bool) -> io::Result<()> {
+    let alloc = rt.alloc();
+    let mut rules = Vec::from_slice(alloc, RULES)?;
+    if is_wide {
+        rules.extend_from_slice(MORE_RULES)?;
+    }
+    let bytes = file(alloc, if is_wide { 8 } else { 2 })?;
+    let Ok(rules) = read_rules(alloc, rules.as_slice()) else {
+        return println!(rt; "the rules are refused");
+    };
+    let began = Instant::now(rt)?;
+    let Ok(table) = read_table(alloc, &rules, bytes.as_slice()) else {
+        return println!(rt; "the readings are refused");
+    };
+    let mut nanos = began.elapsed(rt)?.as_nanos();
+    let mut sum = sum_of(&table);
+    if way == Way::Write {
+        let began = Instant::now(rt)?;
+        let text = table_text(alloc, &rules, &table, table.series())?;
+        nanos = began.elapsed(rt)?.as_nanos();
+        sum = text.len() as u64;
+    }
+    println!(rt;
+        "{} {sum} {}",
+        nanos.saturating_mul(1000) / u128::from(ROWS),
+        bytes.len()
+    )
+}
+
+/// The values of all readings, added up.
+fn sum_of(table: &Table) -> u64 {
+    let mut sum = 0u64;
+    for value in table.series().as_slice() {
+        sum = sum.wrapping_add(*value as u64);
+    }
+    sum
+}
+
+/// The readings file: a time in seconds, and hundredths in the other columns.
+fn file(alloc: Global, columns: u32) -> Result<Vec<u8>, AllocError> {
+    let mut bytes = Vec::new(alloc);
+    bytes.extend_from_slice(if columns == 2 {
+        b"time,a\n".as_slice()
+    } else {
+        b"time,a,n,b,o,p,c,q\n".as_slice()
+    })?;
+    let mut state: u64 = 1;
+    for row in 0..ROWS {
+        push_text_of(&mut bytes, i128::from(row), 0)?;
+        for col in 1..columns {
+            let (next, number) = next_hundredths(state);
+            state = next;
+            bytes.push(b',')?;
+            if is_there(columns, row, col) {
+                push_hundredths(&mut bytes, number)?;
+            }
+        }
+        bytes.push(b'\n')?;
+    }
+    Ok(bytes)
+}
+
+/// Whether a row has something in a column, counted from 0. Where there are three sensors each misses every third
+/// reading.
+fn is_there(columns: u32, row: u32, col: u32) -> bool {
+    columns == 2 || (row % 3 + col % 3) % 3 != 0 || !matches!(col, 1 | 3 | 6)
+}

@@ -1,0 +1,13 @@
+pub mod Beginning
+pub mod Continuing
+pub mod Feeding
+pub mod Finishing
+pub mod HaveAnswers
+pub mod Indexing
+pub mod OneRead
+pub mod Reached
+pub mod ReadingBack
+pub mod Separators
+pub mod Staying
+pub mod WholeTables
+pub mod Writing

@@ -1,0 +1,5 @@
+use Rattle.series_csv.specs.StandsFor.{HasEnded}
+use Rattle.series_csv.proofs.tests.by_bytes.Given as goal
+
+abbrev pub invariant-loop-byte : goal.invariant-loop-byte
+invariant-loop-byte g l = ¬ HasEnded l.reader

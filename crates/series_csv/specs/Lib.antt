@@ -1,0 +1,11 @@
+pub mod Feeds
+pub mod File
+pub mod Indexed
+pub mod Progress
+pub mod Read
+pub mod ReadBack
+pub mod Readings
+pub mod StandsFor
+pub mod Stays
+pub mod Text
+pub mod Whole

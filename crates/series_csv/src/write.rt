@@ -1,0 +1,70 @@
+//! The text of a table.
+ghost use Rattle.std.specs.Prelude.{◌≡◌, ◌++◌, length, IfOk, OnOk};
+ghost use Rattle.std.specs.List.{AllByRecursion};
+ghost use Rattle.series_csv.specs.ReadBack.{IsSeriesOf};
+ghost use Rattle.series_csv.specs.Readings.{values_of, IsSmall};
+ghost use Rattle.series_csv.specs.Text.{rows_text, table_text};
+
+use crate::table::Table;
+use record_cut::Fields;
+use rule_file::Rules;
+use screen_model::Series;
+use series_rows::{Row, push_header, push_row_with};
+use std::alloc::{AllocError, Global};
+
+/// The text of a table with one value for each of its readings, in units and at most 10^15 in size: the header and the
+/// rows as they were read, each reading replaced by its value.
+pub fn table_text(
+    alloc: Global,
+    rules: &Rules,
+    table: &Table,
+    series: &Series,
+) -> Result<Vec<u8>, AllocError>
+    requires { IsSeriesOf table.now series.now }
+    ensures { IfOk result (λ text. text.items ≡ table_text rules.now table.now series.now) }
+{
+    let mut text = Vec::with_capacity(alloc, room_for(table))?;
+    push_header(&mut text, rules, table.header())?;
+    push_rows(&mut text, rules, table.all_rows(), series.as_slice())?;
+    Ok(text)
+}
+
+/// Adds the texts of rows, each with the next values, one for each of its readings.
+fn push_rows(
+    text: &mut Vec<u8>,
+    rules: &Rules,
+    rows: &[Row],
+    values: &[i64],
+) -> Result<(), AllocError>
+    requires count { length values.now ≡ length (values_of rows.now) }
+    requires small { AllByRecursion IsSmall values.now }
+    ensures { OnOk result (text.new.items ≡ text.old.items ++ rows_text rules.now rows.now values.now) }
+{
+    let mut rest = values;
+    for row in rows {
+        let (first, later) = rest.split_at(row.readings().len());
+        push_row_with(text, rules, row, first)?;
+        rest = later;
+    }
+    Ok(())
+}
+
+/// About how many bytes the text of a table has.
+fn room_for(table: &Table) -> usize {
+    let mut room = size_of_text(table.header().fields());
+    for row in table.all_rows() {
+        room = room.saturating_add(size_of_text(row.fields()));
+    }
+    room
+}
+
+/// How many bytes a row has, where none of its fields is in quotes.
+fn size_of_text(fields: &Fields) -> usize {
+    let mut size = 0usize;
+    for i in 0..fields.width() {
+        if let Some(field) = fields.field(i) {
+            size = size.saturating_add(field.len()).saturating_add(1);
+        }
+    }
+    size
+}
