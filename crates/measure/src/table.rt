@@ -2,7 +2,7 @@
 
 use crate::texts::{next_hundredths, push_hundredths};
 use fix_point::push_text_of;
-use rule_file::read_rules;
+use rule_file::{Rules, read_rules};
 use series_csv::{Table, read_table, table_text};
 use std::alloc::{AllocError, Global};
 use std::io;
@@ -11,15 +11,16 @@ use std::time::Instant;
 
 const ROWS: u32 = 200_000;
 
-/// The rules of files with two and with eight columns.
+/// The rules of files with two columns.
 const RULES: &[u8] =
     b"[format]\ndecimals = 2\n[[speed]]\nsensor = \"a\"\nmin = -1\nmax = 1\nwindow = 10\n";
 
-const MORE_RULES: &[u8] =
-    b"[[range]]\nsensor = \"b\"\nmax = 9\n[[range]]\nsensor = \"c\"\nmax = 9\n";
+/// The rules of files with eight columns.
+const WIDE_RULES: &[u8] =
+    b"[format]\ndecimals = 2\n[[speed]]\nsensor = \"a\"\nmin = -1\nmax = 1\nwindow = 10\n[[range]]\nsensor = \"b\"\nmax = 9\n[[range]]\nsensor = \"c\"\nmax = 9\n";
 
 /// What is measured.
-#[derive(Clone, Copy, PartialEq)]
+#[derive(Clone, Copy)]
 pub enum Way {
     /// The bytes of a file as a table.
     Read,
@@ -31,32 +32,48 @@ pub enum Way {
 /// every third reading; then the sum of the values that were read, or the bytes that were written; and the bytes of the
 /// file.
 pub fn measure<R: Runtime + AllocGlobal>(rt: &R, way: Way, is_wide: bool) -> io::Result<()> {
-    let alloc = rt.alloc();
-    let mut rules = Vec::from_slice(alloc, RULES)?;
-    if is_wide {
-        rules.extend_from_slice(MORE_RULES)?;
-    }
-    let bytes = file(alloc, if is_wide { 8 } else { 2 })?;
-    let Ok(rules) = read_rules(alloc, rules.as_slice()) else {
+    let bytes = file(rt.alloc(), if is_wide { 8 } else { 2 })?;
+    let Ok(rules) = read_rules(rt.alloc(), if is_wide { WIDE_RULES } else { RULES }) else {
         return println!(rt; "the rules are refused");
     };
+    match way {
+        Way::Read => measure_reading(rt, &rules, bytes.as_slice()),
+        Way::Write => measure_writing(rt, &rules, bytes.as_slice()),
+    }
+}
+
+fn measure_reading<R: Runtime + AllocGlobal>(
+    rt: &R,
+    rules: &Rules,
+    bytes: &[u8],
+) -> io::Result<()> {
     let began = Instant::now(rt)?;
-    let Ok(table) = read_table(alloc, &rules, bytes.as_slice()) else {
+    let table = read_table(rt.alloc(), rules, bytes);
+    let nanos = began.elapsed(rt)?.as_nanos();
+    match table {
+        Ok(table) => print(rt, nanos, sum_of(&table), bytes),
+        Err(_) => println!(rt; "the readings are refused"),
+    }
+}
+
+fn measure_writing<R: Runtime + AllocGlobal>(
+    rt: &R,
+    rules: &Rules,
+    bytes: &[u8],
+) -> io::Result<()> {
+    let Ok(table) = read_table(rt.alloc(), rules, bytes) else {
         return println!(rt; "the readings are refused");
     };
-    let mut nanos = began.elapsed(rt)?.as_nanos();
-    let mut sum = sum_of(&table);
-    if way == Way::Write {
-        let began = Instant::now(rt)?;
-        let text = table_text(alloc, &rules, &table, table.series())?;
-        nanos = began.elapsed(rt)?.as_nanos();
-        sum = text.len() as u64;
-    }
-    println!(rt;
-        "{} {sum} {}",
-        nanos.saturating_mul(1000) / u128::from(ROWS),
-        bytes.len()
-    )
+    let began = Instant::now(rt)?;
+    let text = table_text(rt.alloc(), rules, &table, table.series())?;
+    let nanos = began.elapsed(rt)?.as_nanos();
+    print(rt, nanos, text.len() as u64, bytes)
+}
+
+/// Prints the picoseconds for a row, the sum, and the bytes of the file.
+fn print<R: Runtime>(rt: &R, nanos: u128, sum: u64, bytes: &[u8]) -> io::Result<()> {
+    let picos = nanos.saturating_mul(1000) / u128::from(ROWS);
+    println!(rt; "{picos} {sum} {}", bytes.len())
 }
 
 /// The values of all readings, added up.
@@ -78,18 +95,25 @@ fn file(alloc: Global, columns: u32) -> Result<Vec<u8>, AllocError> {
     })?;
     let mut state: u64 = 1;
     for row in 0..ROWS {
-        push_text_of(&mut bytes, i128::from(row), 0)?;
-        for col in 1..columns {
-            let (next, number) = next_hundredths(state);
-            state = next;
-            bytes.push(b',')?;
-            if is_there(columns, row, col) {
-                push_hundredths(&mut bytes, number)?;
-            }
-        }
-        bytes.push(b'\n')?;
+        state = push_row(&mut bytes, row, columns, state)?;
     }
     Ok(bytes)
+}
+
+/// Adds a row, and gives the next state of the numbers.
+fn push_row(bytes: &mut Vec<u8>, row: u32, columns: u32, state: u64) -> Result<u64, AllocError> {
+    push_text_of(bytes, i128::from(row), 0)?;
+    let mut state = state;
+    for col in 1..columns {
+        let (next, number) = next_hundredths(state);
+        state = next;
+        bytes.push(b',')?;
+        if is_there(columns, row, col) {
+            push_hundredths(bytes, number)?;
+        }
+    }
+    bytes.push(b'\n')?;
+    Ok(state)
 }
 
 /// Whether a row has something in a column, counted from 0. Where there are three sensors each misses every third
