@@ -1,0 +1,254 @@
+ghost use Rattle.std.specs.Prelude.{◌≡◌, ◌≤◌, ◌≤ℤ◌, All, IsTrue, pos};
+ghost use Rattle.order_window.specs.Window.{AreApart, IsAfter};
+
+use crate::{Key, OrderWindow};
+use fix_point::Rate;
+use rule_file::{Name, SpeedRule};
+use std::alloc::{AllocError, Global};
+use std::test::Fail;
+use window_median::median_plain;
+
+/// Ticks of a second.
+const SECOND: i64 = 1_000_000_000;
+
+/// What is tried: two rates, in millionths for so many seconds, a window and the decimals.
+#[derive(Clone, Copy)]
+struct Case {
+    min: i64,
+    max: i64,
+    per: u32,
+    window: i64,
+    decimals: u32,
+}
+
+/// Whether two keys may stand in one window.
+fn are_apart(span: i64, key: Key, other: Key) -> bool
+    ensures { IsTrue result → AreApart span key other }
+{
+    let apart = key.ticks.abs_diff(other.ticks);
+    if apart == 0 {
+        return false;
+    }
+    i128::from(apart) <= i128::from(span)
+}
+
+/// Whether a key may be added to these.
+fn all_apart(span: i64, key: Key, keys: &[Key]) -> bool
+    ensures { IsTrue result → All (AreApart span key) keys.now }
+{
+    for other in keys {
+        if !are_apart(span, key, *other) {
+            return false;
+        }
+    }
+    true
+}
+
+/// Whether a key comes after a reading, within the window.
+fn is_after(span: i64, own: Key, key: Key) -> bool
+    ensures { IsTrue result → IsAfter span own key }
+{
+    let dt = i128::from(key.ticks) - i128::from(own.ticks);
+    if dt < 1 {
+        return false;
+    }
+    dt <= i128::from(span)
+}
+
+/// Whether a reading has these keys as its successors.
+fn all_after(span: i64, own: Key, keys: &[Key]) -> bool
+    ensures { IsTrue result → All (IsAfter span own) keys.now }
+{
+    for key in keys {
+        if !is_after(span, own, *key) {
+            return false;
+        }
+    }
+    true
+}
+
+/// Adds a key where it may be added.
+fn try_insert(order: &mut OrderWindow, key: Key) -> bool {
+    let fits = order.keys().len() < order.room() as usize
+        && key.value.unsigned_abs() < 1_000_000
+        && all_apart(order.span(), key, order.keys());
+    if fits {
+        order.insert(key);
+    }
+    fits
+}
+
+/// The median of a reading that the keys follow.
+fn try_median(order: &OrderWindow, own: Key) -> Option<i64> {
+    if all_after(order.span(), own, order.keys()) {
+        Some(order.median(own))
+    } else {
+        None
+    }
+}
+
+/// So many millionths for so many seconds, in units and as a whole number, rounded down.
+fn floor(millionths: i64, case: Case, dt: i64) -> Option<i64> {
+    let unit = 10i128.checked_pow(case.decimals)?;
+    let change = i128::from(millionths).checked_mul(unit)?;
+    let change = change.checked_mul(i128::from(dt))?;
+    let parts = i128::from(case.per).checked_mul(1_000_000_000_000_000)?;
+    i64::try_from(change.checked_div_euclid(parts)?).ok()
+}
+
+/// The two candidates of a key.
+fn candidates_of(case: Case, own: Key, key: Key) -> Option<(i64, i64)> {
+    let dt = key.ticks.checked_sub(own.ticks)?;
+    let most = floor(case.max, case, dt)?;
+    let least = floor(case.min.checked_neg()?, case, dt)?.checked_neg()?;
+    Some((key.value.checked_sub(most)?, key.value.checked_sub(least)?))
+}
+
+/// The median of all candidates, one by one.
+fn plain(alloc: Global, case: Case, own: Key, keys: &[Key]) -> Result<Option<i64>, AllocError> {
+    let mut candidates = Vec::new(alloc);
+    candidates.push(own.value)?;
+    for key in keys {
+        let Some((first, second)) = candidates_of(case, own, *key) else {
+            return Ok(None);
+        };
+        candidates.push(first)?;
+        candidates.push(second)?;
+    }
+    if candidates.len() % 2 == 1 {
+        Ok(Some(median_plain(&mut candidates)))
+    } else {
+        Ok(None)
+    }
+}
+
+/// A window under the rule of a case, where its numbers are small.
+fn window_for(alloc: Global, case: Case) -> Result<Option<OrderWindow>, AllocError> {
+    let small = case.min.unsigned_abs() <= 1_000_000 && case.max.unsigned_abs() <= 1_000_000;
+    let limited = 1 <= case.per && case.per <= 1_000 && case.decimals <= 6;
+    let spans = 1 <= case.window && case.window <= 1_000_000_000_000;
+    if !small || !limited || !spans || case.max < case.min {
+        return Ok(None);
+    }
+    let rule = SpeedRule {
+        sensor: Name::new(alloc),
+        min: Rate {
+            millionths: case.min,
+            per: case.per,
+        },
+        max: Rate {
+            millionths: case.max,
+            per: case.per,
+        },
+        window: case.window,
+    };
+    Ok(Some(OrderWindow::with_room(alloc, 16, &rule, case.decimals)?))
+}
+
+/// The next number of a sequence, below 2^31.
+fn next(state: u64) -> u64 {
+    state.wrapping_mul(1_103_515_245).wrapping_add(12345) % 2_147_483_648
+}
+
+/// Takes out the keys that a new one leaves no room for, at first the earliest; sometimes also one from the middle.
+fn make_room(
+    rt: &HostRuntime,
+    order: &mut OrderWindow,
+    kept: &mut Vec<Key>,
+    ticks: i64,
+    state: u64,
+) {
+    for _ in 0..16 {
+        let Some(first) = kept.first().copied() else {
+            return;
+        };
+        if kept.len() <= 12 && ticks.saturating_sub(first.ticks) < order.span() {
+            break;
+        }
+        kept.remove(0);
+        assert_eq!(rt; order.remove(first.ticks), Some(first));
+    }
+    if state % 17 == 3 && kept.len() > 2 {
+        let middle = kept.remove(kept.len() / 2);
+        assert_eq!(rt; order.remove(middle.ticks), Some(middle));
+    }
+    assert_eq!(rt; order.remove(ticks), None);
+}
+
+/// Compares the medians of many windows with those of all candidates.
+fn compare(rt: &HostRuntime, case: Case, seed: u64) -> Result<(), Fail> {
+    let mut order = window_for(rt.alloc(), case)?.ok_or("a case that is too great")?;
+    let mut kept: Vec<Key> = Vec::new(rt.alloc());
+    let mut state = seed;
+    let mut ticks = 0i64;
+    for _ in 0..500 {
+        state = next(state);
+        let value = (state / 65536 % 40) as i64 - 20;
+        ticks = ticks.saturating_add((state / 7 % 5) as i64 * 500_000_000 + 1);
+        make_room(rt, &mut order, &mut kept, ticks, state);
+        let key = Key { value, ticks };
+        kept.push(key)?;
+        assert!(rt; try_insert(&mut order, key));
+        let first = kept.first().copied().ok_or("no key")?;
+        let own = Key {
+            value: value / 2,
+            ticks: first.ticks.saturating_sub(1),
+        };
+        let median = plain(rt.alloc(), case, own, kept.as_slice())?;
+        assert_eq!(rt; try_median(&order, own), median);
+        assert!(rt; median.is_some());
+    }
+    Ok(())
+}
+
+#[test]
+fn as_all_candidates(rt: HostRuntime) -> Result<(), Fail> {
+    let cases = [
+        (-1_000_000, 1_000_000, 1, 10, 0),
+        (0, 0, 1, 10, 0),
+        (-333_333, 142_857, 7, 40, 2),
+        (100_000, 900_000, 3, 25, 1),
+        (-900_000, -100_000, 3, 25, 6),
+    ];
+    for (min, max, per, seconds, decimals) in cases {
+        let case = Case {
+            min,
+            max,
+            per,
+            window: seconds * SECOND,
+            decimals,
+        };
+        compare(&rt, case, 12345)?;
+    }
+    Ok(())
+}
+
+/// A key at so many seconds.
+fn at(value: i64, seconds: u8) -> Key {
+    Key {
+        value,
+        ticks: i64::from(seconds) * SECOND,
+    }
+}
+
+#[test]
+fn two_keys(rt: HostRuntime) -> Result<(), Fail> {
+    let case = Case {
+        min: -1_000_000,
+        max: 1_000_000,
+        per: 1,
+        window: 10 * SECOND,
+        decimals: 0,
+    };
+    let mut order = window_for(rt.alloc(), case)?.ok_or("a case that is too great")?;
+    assert_eq!(rt; try_median(&order, at(7, 0)), Some(7));
+    assert!(rt; try_insert(&mut order, at(20, 2)));
+    assert!(rt; try_insert(&mut order, at(11, 1)));
+    assert_eq!(rt; try_median(&order, at(10, 0)), Some(12));
+    assert_eq!(rt; try_median(&order, at(30, 0)), Some(18));
+    assert_eq!(rt; order.remove(0), None);
+    assert_eq!(rt; order.remove(SECOND), Some(at(11, 1)));
+    assert_eq!(rt; order.remove(SECOND), None);
+    assert_eq!(rt; try_median(&order, at(10, 0)), Some(18));
+    Ok(())
+}
