@@ -9,7 +9,7 @@ use Rattle.std.proofs.lemmas.List.Elements.{All-from_recursion}
 use Rattle.words.proofs.Lists.{contains_first, contains_later, contains_cases, contains_none}
 use Rattle.words.proofs.Products.{sum_mul, minus_mul, mul_minus, within_size}
 use Rattle.fix_point.specs.declared.rate.Rate.{Rate}
-use Rattle.fix_point.specs.Rates.{IsFloor, IsCeil, IsWithinReach, opposite}
+use Rattle.fix_point.specs.Rates.{IsFloor, IsCeil, IsWithinReach, ceil_step, floor_step, opposite}
 use Rattle.fix_point.specs.RateLimits.{RateLimits}
 use Rattle.fix_point.proofs.Rates.{floor_of, ceil_of_floor, one_floor, one_ceil, reach_of_fewer, step_fits}
 use Rattle.rule_file.specs.Limits.{IsUnits}
@@ -20,7 +20,7 @@ use Rattle.window_median.proofs.Counts.{below-cons, above-cons}
 use Rattle.order_window.specs.declared.key.Key.{Key}
 use Rattle.order_window.specs.Lines.{HaveSameKeys, height, line_of}
 use Rattle.order_window.specs.Orders.{AreSorted}
-use Rattle.order_window.specs.Selection.{before_ceil, before_floor, ceil_step, floor_step}
+use Rattle.order_window.specs.Selection.{before_ceil, before_floor}
 use Rattle.order_window.specs.Window.{IsAfter, IsSuccessor}
 use Rattle.order_window.proofs.Counts.{all_same, count-cons, same_length}
 

@@ -1,20 +1,12 @@
 -- For proofs: the candidates of a reading in two rising orders, and the ends of their lower and upper halves.
-use Rattle.std.specs.Prelude.{◌≡◌, ℕ, ◌-◌, ◌*◌, ◌^◌, ◌<◌, ◌≤◌, ℤ, pos, neg_ℤ, ◌-ℤ◌, ◌*ℤ◌, ◌≤ℤ◌, ◌⊎◌, length, slice_index_or}
-use Rattle.std.specs.Int.{int_div_euclid}
+use Rattle.std.specs.Prelude.{◌≡◌, ℕ, ◌-◌, ◌<◌, ◌≤◌, ℤ, ◌-ℤ◌, ◌≤ℤ◌, ◌⊎◌, length, slice_index_or}
 use Rattle.std.specs.List.{AllByRecursion}
 use Rattle.fix_point.specs.declared.rate.Rate.{Rate}
-use Rattle.fix_point.specs.Rates.{opposite}
+use Rattle.fix_point.specs.Rates.{ceil_step, floor_step}
 use Rattle.order_window.specs.declared.key.Key.{Key}
 use Rattle.order_window.specs.declared.orders.Orders.{Orders}
 use Rattle.order_window.specs.Orders.{AreOrders}
 use Rattle.order_window.specs.Window.{IsAfter}
-
--- the greatest whole step at most the rate, and the least at least the rate
-abbrev pub floor_step : Rate → ℕ → ℤ → ℤ
-floor_step rate d dt = int_div_euclid ((rate.millionths *ℤ pos (10 ^ d)) *ℤ dt) (pos (rate.per * 10 ^ 15))
-
-abbrev pub ceil_step : Rate → ℕ → ℤ → ℤ
-ceil_step rate d dt = neg_ℤ (floor_step (opposite rate) d dt)
 
 -- the number from which the greatest step, or the least one, leads to a key
 unfoldable pub before_floor : Rate → ℕ → Key → Key → ℤ

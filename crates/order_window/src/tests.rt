@@ -5,6 +5,7 @@ use crate::{Key, OrderWindow};
 use fix_point::Rate;
 use rule_file::{Name, SpeedRule};
 use std::alloc::{AllocError, Global};
+use std::process::Abort;
 use std::test::Fail;
 use window_median::median_plain;
 
@@ -141,6 +142,7 @@ fn window_for(alloc: Global, case: Case) -> Result<Option<OrderWindow>, AllocErr
             per: case.per,
         },
         window: case.window,
+        price: 0,
     };
     Ok(Some(OrderWindow::with_room(alloc, 16, &rule, case.decimals)?))
 }
@@ -152,7 +154,7 @@ fn next(state: u64) -> u64 {
 
 /// Takes out the keys that a new one leaves no room for, at first the earliest; sometimes also one from the middle.
 fn make_room(
-    rt: &HostRuntime,
+    rt: &impl Abort,
     order: &mut OrderWindow,
     kept: &mut Vec<Key>,
     ticks: i64,
@@ -176,9 +178,9 @@ fn make_room(
 }
 
 /// Compares the medians of many windows with those of all candidates.
-fn compare(rt: &HostRuntime, case: Case, seed: u64) -> Result<(), Fail> {
-    let mut order = window_for(rt.alloc(), case)?.ok_or("a case that is too great")?;
-    let mut kept: Vec<Key> = Vec::new(rt.alloc());
+fn compare(rt: &impl Abort, alloc: Global, case: Case, seed: u64) -> Result<(), Fail> {
+    let mut order = window_for(alloc, case)?.ok_or("a case that is too great")?;
+    let mut kept: Vec<Key> = Vec::new(alloc);
     let mut state = seed;
     let mut ticks = 0i64;
     for _ in 0..500 {
@@ -194,7 +196,7 @@ fn compare(rt: &HostRuntime, case: Case, seed: u64) -> Result<(), Fail> {
             value: value / 2,
             ticks: first.ticks.saturating_sub(1),
         };
-        let median = plain(rt.alloc(), case, own, kept.as_slice())?;
+        let median = plain(alloc, case, own, kept.as_slice())?;
         assert_eq!(rt; try_median(&order, own), median);
         assert!(rt; median.is_some());
     }
@@ -218,7 +220,7 @@ fn as_all_candidates(rt: HostRuntime) -> Result<(), Fail> {
             window: seconds * SECOND,
             decimals,
         };
-        compare(&rt, case, 12345)?;
+        compare(&rt, rt.alloc(), case, 12345)?;
     }
     Ok(())
 }
