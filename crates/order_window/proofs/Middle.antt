@@ -19,7 +19,7 @@ use Rattle.order_window.specs.Orders.{AreSorted}
 use Rattle.order_window.specs.Selection.{IsSplit, IsSplitBetween, IsLowerEnd, IsUpperEnd}
 use Rattle.order_window.specs.Window.{IsMedianOf, IsSuccessor, Window}
 use Rattle.order_window.proofs.Candidates.{all_successors, above-starts, below-starts, ceil_rises, floor_rises, length-near_all, max_is_start, min_is_start, near_all, of_max, of_min}
-use Rattle.order_window.proofs.Counts.{contained_back, count-cons, same_length}
+use Rattle.order_window.proofs.Counts.{contained_back, count-cons, one_if, same_length}
 use Rattle.order_window.proofs.Places.{pairs_at}
 
 -- ---- two rising sequences
@@ -71,7 +71,7 @@ count_front : (test : Key → Bool) (keys : List Key) (own : Key) (i : ℕ) → 
 count_front test [] own i none = omega arith
 count_front test (key ∷ keys) own zero none =
     let here : test key ≡ false = none 0 (omega arith) (omega arith) in
-    let not_counted : cond (test key) 1 0 ≡ 0 = ap (λ b. cond b 1 0) here in
+    let not_counted : one_if (test key) ≡ 0 = ap one_if here in
     omega (arith, count-cons test key keys, not_counted, count_front test keys own zero (λ j g h. none (suc j) (omega arith) (omega (arith, h))))
 count_front test (key ∷ keys) own (suc i) none =
     omega (arith, count-cons test key keys, at_most_one (test key), count_front test keys own i (λ j g h. none (suc j) (omega (arith, g)) (omega (arith, h))))
@@ -81,7 +81,7 @@ count_back test keys own zero within none = omega (arith, count_by-le-length tes
 count_back test [] own (suc i) within none = absurd (omega (arith, within))
 count_back test (key ∷ keys) own (suc i) within none =
     let here : test key ≡ false = none 0 (omega arith) in
-    let not_counted : cond (test key) 1 0 ≡ 0 = ap (λ b. cond b 1 0) here in
+    let not_counted : one_if (test key) ≡ 0 = ap one_if here in
     omega (arith, count-cons test key keys, not_counted, count_back test keys own i (omega (arith, within)) (λ j h. none (suc j) (omega (arith, h))))
 
 not_lt : (a b : ℤ) → b ≤ℤ a → int_lt a b ≡ false

@@ -7,6 +7,7 @@ use Rattle.order_window.specs.declared.line.Line.{Line}
 use Rattle.order_window.specs.Lines.{AreComparable, IsOrdered, IsPut, IsTaken, time_line, line_of}
 use Rattle.order_window.specs.Orders.{rates_of}
 use Rattle.order_window.specs.Window.{AreApart}
+use Rattle.order_window.proofs.Counts.{same_length}
 use Rattle.order_window.proofs.Keeping.{all_comparable_times, all_differ, all_near, few_put, max_comparable, min_comparable, sorted_put}
 use Rattle.order_window.proofs.Places.{added, put_length}
 use Rattle.order_window.proofs.orders.add.Goals as goal
@@ -21,6 +22,16 @@ put-requires-clause-comparable c =
     let fits : FitsSigned w64 c.args.key.ticks = search rules in
     let P : Line → Type 0 = λ line. AllByRecursion (λ other. AreComparable line other c.args.key) c.args.orders.now.by_time.items in
     subst P (sym c.ticks_line.ensures) (all_comparable_times c.args.key c.args.orders.now.by_time.items fits c.requires.sorted.sorted.keys.ticks)
+
+pub put-requires-2-clause-room : goal.put-requires-2-clause-room
+put-requires-2-clause-room c =
+    let o = c.args.orders.now in
+    omega (arith, same_length o.by_time.items o.by_max.items c.requires.sorted.sorted.max.same, c.requires.room, c.requires.sorted.room.max)
+
+pub put-requires-3-clause-room : goal.put-requires-3-clause-room
+put-requires-3-clause-room c =
+    let o = c.args.orders.now in
+    omega (arith, same_length o.by_time.items o.by_min.items c.requires.sorted.sorted.min.same, c.requires.room, c.requires.sorted.room.min)
 
 pub put-requires-2-clause-ordered : goal.put-requires-2-clause-ordered
 put-requires-2-clause-ordered c =
