@@ -1,5 +1,6 @@
 pub mod Candidates
 pub mod Counts
+pub mod Ends
 pub mod Heights
 pub mod Keeping
 pub mod Middle
