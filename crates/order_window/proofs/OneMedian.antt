@@ -1,10 +1,10 @@
 -- A reading has one median of its candidates only.
-use Rattle.std.proofs.Common.{◌≡◌, ℕ, ◌+◌, ◌*◌, ◌%◌, ℤ, ◌-ℤ◌, List, [], ◌∷◌, length, refl, sym, ap, ◌∙◌, subst, arith}
+use Rattle.std.proofs.Common.{◌≡◌, ℤ, ◌-ℤ◌, List, [], ◌∷◌, refl, sym, ap, ◌∙◌, subst, arith}
 use Rattle.std.specs.List.{AllZip}
 use Rattle.fix_point.specs.RateLimits.{RateLimits}
 use Rattle.fix_point.proofs.Rates.{one_floor, one_ceil}
 use Rattle.window_median.specs.declared.cost.Near.{Near}
-use Rattle.window_median.specs.LocalCost.{candidates, starts}
+use Rattle.window_median.specs.LocalCost.{candidates}
 use Rattle.window_median.specs.Median.{IsMedian, IsOdd}
 use Rattle.window_median.proofs.Costs.{length-starts}
 use Rattle.window_median.proofs.Ranks.{only_median}

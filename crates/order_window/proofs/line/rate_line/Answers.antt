@@ -1,8 +1,7 @@
 use Rattle.std.proofs.Common.{ℕ, ◌*◌, ◌^◌, ◌≤◌, ◌≡◌, ℤ, pos, ◌*ℤ◌, FitsSigned, to_z, of_z, lit<, sym, ap, ◌∙◌, subst, arith}
 use Rattle.std.specs.Int.{w128}
 use Rattle.std.proofs.lemmas.Int.{fits_signed_from_abs}
-use Rattle.fix_point.proofs.Rates.{IsProduct, change_fits, power_small, product_of, whole_wide, wide, wide_pos}
-use Rattle.fix_point.specs.declared.rate.Rate.{Rate}
+use Rattle.fix_point.proofs.Rates.{change_fits, power_small, product_of, whole_wide, wide, wide_pos}
 use Rattle.order_window.specs.declared.line.Line.{Line}
 use Rattle.order_window.proofs.line.rate_line.Goals as goal
 

@@ -1,10 +1,9 @@
-use Rattle.std.proofs.Common.{List, FitsSigned, rules, sym, subst, refl, arith}
+use Rattle.std.proofs.Common.{FitsSigned, rules, sym, subst, arith}
 use Rattle.std.specs.Int.{w64}
 use Rattle.std.specs.List.{AllByRecursion}
 use Rattle.std.proofs.lemmas.List.Elements.{recursion_from_All}
-use Rattle.order_window.specs.declared.key.Key.{Key}
 use Rattle.order_window.specs.declared.line.Line.{Line}
-use Rattle.order_window.specs.Lines.{AreComparable, IsOrdered, IsPut, IsTaken, time_line, line_of}
+use Rattle.order_window.specs.Lines.{AreComparable, IsOrdered, IsPut, time_line}
 use Rattle.order_window.specs.Orders.{rates_of}
 use Rattle.order_window.specs.Window.{AreApart}
 use Rattle.order_window.proofs.Counts.{same_length}

@@ -1,4 +1,4 @@
-use Rattle.std.proofs.Common.{length, refl, arith}
+use Rattle.std.proofs.Common.{refl, arith}
 use Rattle.order_window.specs.Selection.{count_of, max_at, min_at}
 use Rattle.order_window.proofs.Middle.{split_begun, split_found}
 use Rattle.order_window.proofs.selection.split_of.Goals as goal
