@@ -1,4 +1,5 @@
-ghost use Rattle.std.specs.Prelude.{◌≡◌, ◌≤◌, ◌≤ℤ◌, All, IsTrue, pos};
+ghost use Rattle.std.specs.Prelude.{◌≤◌, All, IsTrue};
+ghost use Rattle.fix_point.specs.Rates.{IsInReach, IsRate};
 ghost use Rattle.order_window.specs.Window.{AreApart, IsAfter};
 
 use crate::{Key, OrderWindow};
@@ -49,11 +50,11 @@ fn all_apart(span: i64, key: Key, keys: &[Key]) -> bool
 fn is_after(span: i64, own: Key, key: Key) -> bool
     ensures { IsTrue result → IsAfter span own key }
 {
-    let dt = i128::from(key.ticks) - i128::from(own.ticks);
-    if dt < 1 {
-        return false;
+    if own.ticks < key.ticks {
+        are_apart(span, key, own)
+    } else {
+        false
     }
-    dt <= i128::from(span)
 }
 
 /// Whether a reading has these keys as its successors.
@@ -123,24 +124,52 @@ fn plain(alloc: Global, case: Case, own: Key, keys: &[Key]) -> Result<Option<i64
     }
 }
 
+/// Whether a rate is small.
+fn is_small(rate: Rate) -> bool
+    ensures { IsTrue result → IsRate rate }
+{
+    1 <= rate.per && rate.per <= 1_000 && rate.millionths.unsigned_abs() <= 1_000_000
+}
+
+/// Whether a small rate cannot reach too far within a window.
+fn is_short(rate: Rate, d: u32, window: i64) -> bool
+    ensures { IsTrue result → IsInReach d rate window }
+{
+    if rate.millionths.unsigned_abs() > 1_000_000 {
+        return false;
+    }
+    if window.unsigned_abs() > 1_000_000_000_000 {
+        return false;
+    }
+    if d > 6 {
+        return false;
+    }
+    1 <= rate.per
+}
+
 /// A window under the rule of a case, where its numbers are small.
 fn window_for(alloc: Global, case: Case) -> Result<Option<OrderWindow>, AllocError> {
-    let small = case.min.unsigned_abs() <= 1_000_000 && case.max.unsigned_abs() <= 1_000_000;
-    let limited = 1 <= case.per && case.per <= 1_000 && case.decimals <= 6;
-    let spans = 1 <= case.window && case.window <= 1_000_000_000_000;
-    if !small || !limited || !spans || case.max < case.min {
+    let min = Rate {
+        millionths: case.min,
+        per: case.per,
+    };
+    let max = Rate {
+        millionths: case.max,
+        per: case.per,
+    };
+    if !is_small(min) || !is_small(max) || case.max < case.min || case.decimals > 6 {
+        return Ok(None);
+    }
+    if case.window < 1 || case.window > 1_000_000_000_000 {
+        return Ok(None);
+    }
+    if !is_short(min, case.decimals, case.window) || !is_short(max, case.decimals, case.window) {
         return Ok(None);
     }
     let rule = SpeedRule {
         sensor: Name::new(alloc),
-        min: Rate {
-            millionths: case.min,
-            per: case.per,
-        },
-        max: Rate {
-            millionths: case.max,
-            per: case.per,
-        },
+        min,
+        max,
         window: case.window,
         price: 0,
     };
