@@ -78,7 +78,7 @@ floor_rises rate d own p q some low =
     let step = floor_step rate d (q.ticks -ℤ own.ticks) in
     less_from p.value q.value (floor_step rate d (p.ticks -ℤ own.ticks)) step
     (of_p.greatest (step +ℤ (p.value -ℤ q.value))
-      (floor_at_most p.value q.value p.ticks q.ticks own.ticks (pos (rate.per * 10 ^ 15)) (rate.millionths *ℤ pos (10 ^ d)) step of_q.within low))
+    (floor_at_most p.value q.value p.ticks q.ticks own.ticks (pos (rate.per * 10 ^ 15)) (rate.millionths *ℤ pos (10 ^ d)) step of_q.within low))
 
 pub ceil_rises : (rate : Rate) (d : ℕ) (own p q : Key) → 1 ≤ rate.per → height (line_of rate d) p ≤ℤ height (line_of rate d) q → before_ceil rate d own p ≤ℤ before_ceil rate d own q
 unfolding before_ceil
@@ -88,7 +88,7 @@ ceil_rises rate d own p q some low =
     let step = ceil_step rate d (p.ticks -ℤ own.ticks) in
     less_to p.value q.value step (ceil_step rate d (q.ticks -ℤ own.ticks))
     (of_q.least (step +ℤ (q.value -ℤ p.value))
-      (ceil_at_least p.value q.value p.ticks q.ticks own.ticks (pos (rate.per * 10 ^ 15)) (rate.millionths *ℤ pos (10 ^ d)) step of_p.within low))
+    (ceil_at_least p.value q.value p.ticks q.ticks own.ticks (pos (rate.per * 10 ^ 15)) (rate.millionths *ℤ pos (10 ^ d)) step of_p.within low))
 
 -- ---- the successors
 
@@ -179,7 +179,7 @@ min_first rates own key first keys rest (inl e) =
     let C : Key → Type 0 = λ k. Contains (starts (near_all rates own (first ∷ keys))) (of_min rates own k) in
     subst C e
     (contains_later (near.value -ℤ near.most) ((near.value -ℤ near.least) ∷ starts (near_all rates own keys)) (near.value -ℤ near.least)
-      (contains_first (near.value -ℤ near.least) (starts (near_all rates own keys))))
+    (contains_first (near.value -ℤ near.least) (starts (near_all rates own keys))))
 min_first rates own key first keys rest (inr later) =
     let near = near_of rates own first in
     contains_later (near.value -ℤ near.most) ((near.value -ℤ near.least) ∷ starts (near_all rates own keys)) (of_min rates own key)

@@ -51,8 +51,8 @@ lower_of x y n s p q end within not_none not_all e f is = record {
   above_first = λ h. max_above_first p q end (x (s - 1)) is e;
   above_second = λ h. max_above_second p q end (y ((n - 1) - s)) is f;
   one = by_lt_z p q
-    (λ less. inr (inside n s within not_all, max_is_second p q end (y ((n - 1) - s)) is f less))
-    (λ more. inl (some s not_none, max_is_first p q end (x (s - 1)) is e more));
+      (λ less. inr (inside n s within not_all, max_is_second p q end (y ((n - 1) - s)) is f less))
+      (λ more. inl (some s not_none, max_is_first p q end (x (s - 1)) is e more));
 }
 
 pub upper_of : (x y : ℕ → ℤ) (n s : ℕ) (p q end : ℤ) → s ≤ n → (s ≡ 0 → ⊥) → (s ≡ n → ⊥) → p ≡ x s → q ≡ y (n - s) → end ≡ int_min p q → IsUpperEnd x y n s end
@@ -60,6 +60,6 @@ upper_of x y n s p q end within not_none not_all e f is = record {
   below_first = λ h. min_below_first p q end (x s) is e;
   below_second = λ h. min_below_second p q end (y (n - s)) is f;
   one = by_lt_z p q
-    (λ less. inl (inside n s within not_all, min_is_first p q end (x s) is e less))
-    (λ more. inr (some s not_none, min_is_second p q end (y (n - s)) is f more));
+      (λ less. inl (inside n s within not_all, min_is_first p q end (x s) is e less))
+      (λ more. inr (some s not_none, min_is_second p q end (y (n - s)) is f more));
 }

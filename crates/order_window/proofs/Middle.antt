@@ -143,7 +143,7 @@ fewer_above keys a own n s v long lower some e =
       arith,
       long,
       count_back (λ key. int_lt v (a key)) keys own (suc s) (omega (arith, long, some))
-      (λ j g. not_lt v (a (get_or keys j own)) (lower_to (λ i. a (get_or keys i own)) v s j lower e g (cases_lt j s))),
+          (λ j g. not_lt v (a (get_or keys j own)) (lower_to (λ i. a (get_or keys i own)) v s j lower e g (cases_lt j s))),
     )
 
 at_lower_by : (first second : List Key) (a b : Key → ℤ) (own : Key) (n s : ℕ) (o v : ℤ) → length first ≡ n → length second ≡ n → s ≤ n
@@ -213,8 +213,8 @@ chosen o low high v order e = record {
   from = omega (arith, ints, clamps, order, e);
   to = omega (arith, ints, clamps, order, e);
   one = by_lt_z o low
-    (λ less. lower_end (omega (arith, ints, clamps, order, e)) (omega (arith, ints, clamps, order, e)))
-    (λ more. by_lt_z high o
+      (λ less. lower_end (omega (arith, ints, clamps, order, e)) (omega (arith, ints, clamps, order, e)))
+      (λ more. by_lt_z high o
       (λ beyond. upper_end (omega (arith, ints, clamps, order, e)) (omega (arith, ints, clamps, order, e)))
       (λ inside. own_value (omega (arith, ints, clamps, order, e))));
 }
@@ -283,11 +283,11 @@ candidate_by rates own keys first second n s low high v f g ends (own_value e) =
 candidate_by rates own keys first second n s low high v f g ends (lower_end e h) =
     contains_later own.value (starts (near_all rates own keys)) v
     (lower_among rates own keys first second n s v f g ends.first_long ends.second_long ends.split.within
-      (lower_one (λ j. of_max rates own (get_or first j own)) (λ j. of_min rates own (get_or second j own)) n s low v e ends.lower.one))
+    (lower_one (λ j. of_max rates own (get_or first j own)) (λ j. of_min rates own (get_or second j own)) n s low v e ends.lower.one))
 candidate_by rates own keys first second n s low high v f g ends (upper_end e h) =
     contains_later own.value (starts (near_all rates own keys)) v
     (upper_among rates own keys first second n s v f g ends.first_long ends.second_long ends.split.within
-      (upper_one (λ j. of_max rates own (get_or first j own)) (λ j. of_min rates own (get_or second j own)) n s high v e ends.upper.one))
+    (upper_one (λ j. of_max rates own (get_or first j own)) (λ j. of_min rates own (get_or second j own)) n s high v e ends.upper.one))
 
 -- ---- the orders of a window
 

@@ -2,7 +2,7 @@
 ghost use Rattle.std.specs.Prelude.{◌≡◌, ◌<◌, ◌≤◌, [], length, All, IfNone, IfOk, IfSome, ◌≢◌};
 ghost use Rattle.fix_point.specs.RateLimits.{AreWithinReach};
 ghost use Rattle.rule_file.specs.Limits.{IsUnits};
-ghost use Rattle.order_window.specs.Orders.{AreOrders, window_of};
+ghost use Rattle.order_window.specs.Orders.{AreOrders, StayInPlace, window_of};
 ghost use Rattle.order_window.specs.Window.{AreApart, IsAdded};
 
 use crate::key::Key;
@@ -60,6 +60,7 @@ pub(crate) fn add(orders: &mut Orders, key: Key)
     requires apart { All (AreApart orders.old.span key) orders.old.by_time.items }
     ensures sorted { AreOrders orders.new }
     ensures added { IsAdded key orders.old.by_time.items orders.new.by_time.items }
+    ensures in_place { StayInPlace orders.old orders.new }
     ensures kept { window_of orders.new ≡ record (window_of orders.old) { keys = orders.new.by_time.items } }
 {
     let max_line = rate_line(orders.max, orders.decimals);
@@ -77,6 +78,7 @@ pub(crate) fn remove(orders: &mut Orders, ticks: i64) -> Option<Key>
     ensures taken { IfSome result (λ key. IsAdded key orders.new.by_time.items orders.old.by_time.items) }
     ensures none { IfNone result (All (λ key. key.ticks ≢ ticks) orders.old.by_time.items) }
     ensures left { IfNone result (orders.new.by_time.items ≡ orders.old.by_time.items) }
+    ensures in_place { StayInPlace orders.old orders.new }
     ensures kept { window_of orders.new ≡ record (window_of orders.old) { keys = orders.new.by_time.items } }
 {
     let key = take_at(&mut orders.by_time, ticks)?;

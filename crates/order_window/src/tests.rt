@@ -1,9 +1,10 @@
 ghost use Rattle.std.specs.Prelude.{◌≤◌, All, IsTrue};
 ghost use Rattle.fix_point.specs.Rates.{IsInReach, IsRate};
+ghost use Rattle.rule_file.specs.Limits.{IsSpan};
 ghost use Rattle.order_window.specs.Window.{AreApart, IsAfter};
 
 use crate::{Key, OrderWindow};
-use fix_point::Rate;
+use fix_point::{MOST_MILLIONTHS, MOST_PER, MOST_REACH, Rate};
 use rule_file::{Name, SpeedRule};
 use std::alloc::{AllocError, Global};
 use std::process::Abort;
@@ -13,9 +14,10 @@ use window_median::median_plain;
 /// Ticks of a second.
 const SECOND: i64 = 1_000_000_000;
 
-/// What is tried: two rates, in millionths for so many seconds, a window and the decimals.
+/// What is tried: a room; two rates, in millionths for so many seconds; a window and the decimals.
 #[derive(Clone, Copy)]
 struct Case {
+    room: u32,
     min: i64,
     max: i64,
     per: u32,
@@ -72,7 +74,7 @@ fn all_after(span: i64, own: Key, keys: &[Key]) -> bool
 /// Adds a key where it may be added.
 fn try_insert(order: &mut OrderWindow, key: Key) -> bool {
     let fits = order.keys().len() < order.room() as usize
-        && key.value.unsigned_abs() < 1_000_000
+        && key.value.unsigned_abs() <= 1_000_000_000_000_000
         && all_apart(order.span(), key, order.keys());
     if fits {
         order.insert(key);
@@ -124,30 +126,33 @@ fn plain(alloc: Global, case: Case, own: Key, keys: &[Key]) -> Result<Option<i64
     }
 }
 
-/// Whether a rate is small.
-fn is_small(rate: Rate) -> bool
+/// Whether the size and the seconds of a rate are within their limits.
+fn is_rate(rate: Rate) -> bool
     ensures { IsTrue result → IsRate rate }
 {
-    1 <= rate.per && rate.per <= 1_000 && rate.millionths.unsigned_abs() <= 1_000_000
+    1 <= rate.per && rate.per <= MOST_PER && rate.millionths.unsigned_abs() <= MOST_MILLIONTHS
 }
 
-/// Whether a small rate cannot reach too far within a window.
-fn is_short(rate: Rate, d: u32, window: i64) -> bool
+/// Whether a window is within its limits.
+fn is_span(window: i64) -> bool
+    ensures { IsTrue result → IsSpan window }
+{
+    1 <= window && window <= 100_000_000_000_000_000
+}
+
+/// Whether a rate reaches no further than it may within a window.
+fn is_in_reach(rate: Rate, d: u32, window: i64) -> bool
+    requires rate { IsRate rate }
+    requires decimals { d ≤ 6 }
+    requires window { IsSpan window }
     ensures { IsTrue result → IsInReach d rate window }
 {
-    if rate.millionths.unsigned_abs() > 1_000_000 {
-        return false;
-    }
-    if window.unsigned_abs() > 1_000_000_000_000 {
-        return false;
-    }
-    if d > 6 {
-        return false;
-    }
-    1 <= rate.per
+    let units = u128::from(rate.millionths.unsigned_abs()) * 10u128.pow(d);
+    let reach = units * u128::from(window.unsigned_abs());
+    reach <= MOST_REACH * u128::from(rate.per)
 }
 
-/// A window under the rule of a case, where its numbers are small.
+/// A window under the rule of a case, where a file may have this rule.
 fn window_for(alloc: Global, case: Case) -> Result<Option<OrderWindow>, AllocError> {
     let min = Rate {
         millionths: case.min,
@@ -157,13 +162,15 @@ fn window_for(alloc: Global, case: Case) -> Result<Option<OrderWindow>, AllocErr
         millionths: case.max,
         per: case.per,
     };
-    if !is_small(min) || !is_small(max) || case.max < case.min || case.decimals > 6 {
+    if !is_rate(min) || !is_rate(max) || case.max < case.min {
         return Ok(None);
     }
-    if case.window < 1 || case.window > 1_000_000_000_000 {
+    if case.decimals > 6 || !is_span(case.window) {
         return Ok(None);
     }
-    if !is_short(min, case.decimals, case.window) || !is_short(max, case.decimals, case.window) {
+    if !is_in_reach(min, case.decimals, case.window)
+        || !is_in_reach(max, case.decimals, case.window)
+    {
         return Ok(None);
     }
     let rule = SpeedRule {
@@ -173,7 +180,7 @@ fn window_for(alloc: Global, case: Case) -> Result<Option<OrderWindow>, AllocErr
         window: case.window,
         price: 0,
     };
-    Ok(Some(OrderWindow::with_room(alloc, 16, &rule, case.decimals)?))
+    Ok(Some(OrderWindow::with_room(alloc, case.room, &rule, case.decimals)?))
 }
 
 /// The next number of a sequence, below 2^31.
@@ -208,7 +215,7 @@ fn make_room(
 
 /// Compares the medians of many windows with those of all candidates.
 fn compare(rt: &impl Abort, alloc: Global, case: Case, seed: u64) -> Result<(), Fail> {
-    let mut order = window_for(alloc, case)?.ok_or("a case that is too great")?;
+    let mut order = window_for(alloc, case)?.ok_or("no rule of a file")?;
     let mut kept: Vec<Key> = Vec::new(alloc);
     let mut state = seed;
     let mut ticks = 0i64;
@@ -232,24 +239,194 @@ fn compare(rt: &impl Abort, alloc: Global, case: Case, seed: u64) -> Result<(), 
     Ok(())
 }
 
+/// Rules under which the keys of many windows are drawn.
+const DRAWN: [Case; 5] = [
+    Case {
+        room: 16,
+        min: -1_000_000,
+        max: 1_000_000,
+        per: 1,
+        window: 10 * SECOND,
+        decimals: 0,
+    },
+    Case {
+        room: 16,
+        min: 0,
+        max: 0,
+        per: 1,
+        window: 10 * SECOND,
+        decimals: 0,
+    },
+    Case {
+        room: 16,
+        min: -333_333,
+        max: 142_857,
+        per: 7,
+        window: 40 * SECOND,
+        decimals: 2,
+    },
+    Case {
+        room: 16,
+        min: 100_000,
+        max: 900_000,
+        per: 3,
+        window: 25 * SECOND,
+        decimals: 1,
+    },
+    Case {
+        room: 16,
+        min: -900_000,
+        max: -100_000,
+        per: 3,
+        window: 25 * SECOND,
+        decimals: 6,
+    },
+];
+
 #[test]
-fn as_all_candidates(rt: HostRuntime) -> Result<(), Fail> {
-    let cases = [
-        (-1_000_000, 1_000_000, 1, 10, 0),
-        (0, 0, 1, 10, 0),
-        (-333_333, 142_857, 7, 40, 2),
-        (100_000, 900_000, 3, 25, 1),
-        (-900_000, -100_000, 3, 25, 6),
-    ];
-    for (min, max, per, seconds, decimals) in cases {
-        let case = Case {
-            min,
-            max,
-            per,
-            window: seconds * SECOND,
-            decimals,
-        };
+fn medians_are_those_of_all_candidates(rt: HostRuntime) -> Result<(), Fail> {
+    for case in DRAWN {
         compare(&rt, rt.alloc(), case, 12345)?;
+    }
+    Ok(())
+}
+
+/// Rules at the ends of their limits, with several rooms.
+const FAR: [Case; 8] = [
+    Case {
+        room: 0,
+        min: 0,
+        max: 0,
+        per: 1,
+        window: 1,
+        decimals: 0,
+    },
+    Case {
+        room: 1,
+        min: -1,
+        max: 1,
+        per: 10_000_000,
+        window: 1,
+        decimals: 6,
+    },
+    Case {
+        room: 2,
+        min: -1_000_000_000_000_000,
+        max: 1_000_000_000_000_000,
+        per: 1,
+        window: 4_000_000_000,
+        decimals: 6,
+    },
+    Case {
+        room: 3,
+        min: -40_000_000_000_000,
+        max: 40_000_000_000_000,
+        per: 1,
+        window: 100_000_000_000_000_000,
+        decimals: 0,
+    },
+    Case {
+        room: 4,
+        min: 0,
+        max: 1_000_000_000_000_000,
+        per: 10_000_000,
+        window: 100_000_000_000_000_000,
+        decimals: 0,
+    },
+    Case {
+        room: 5,
+        min: -40_000_000,
+        max: -39_999_999,
+        per: 1,
+        window: 100_000_000_000_000_000,
+        decimals: 6,
+    },
+    Case {
+        room: 4_096,
+        min: -7,
+        max: 3,
+        per: 9_999_991,
+        window: 99_999_999_999_999_989,
+        decimals: 3,
+    },
+    Case {
+        room: 20_000,
+        min: 1_000_000,
+        max: 1_000_000,
+        per: 60,
+        window: 3_600 * SECOND,
+        decimals: 2,
+    },
+];
+
+/// Times from which the windows begin.
+const STARTS: [i64; 4] = [i64::MIN, -1, 0, i64::MAX - 100_000_000_000_000_000];
+
+/// Values of a reading before the keys.
+const OWN: [i64; 5] = [
+    i64::MIN,
+    -1_000_000_000_000_000,
+    0,
+    1_000_000_000_000_000,
+    i64::MAX,
+];
+
+/// Values of keys, and the part of the window after which each comes.
+const PARTS: [(i64, i64); 5] = [
+    (1_000_000_000_000_000, 1),
+    (-1_000_000_000_000_000, 5),
+    (0, 3),
+    (1_000_000_000_000_000, 2),
+    (-1_000_000_000_000_000, 1),
+];
+
+/// Compares the medians of several readings with those of all candidates.
+fn compare_own(
+    rt: &impl Abort,
+    alloc: Global,
+    case: Case,
+    order: &OrderWindow,
+    kept: &[Key],
+    ticks: i64,
+) -> Result<(), Fail> {
+    for value in OWN {
+        let own = Key { value, ticks };
+        let median = plain(alloc, case, own, kept)?;
+        assert_eq!(rt; try_median(order, own), median);
+        assert!(rt; median.is_some());
+    }
+    Ok(())
+}
+
+/// Puts keys in at the ends of a window and between them, and takes them out.
+fn compare_far(rt: &impl Abort, alloc: Global, case: Case, start: i64) -> Result<(), Fail> {
+    let mut order = window_for(alloc, case)?.ok_or("no rule of a file")?;
+    let mut kept: Vec<Key> = Vec::new(alloc);
+    for (value, part) in PARTS {
+        let key = Key {
+            value,
+            ticks: start.saturating_add(case.window.checked_div(part).unwrap_or(1).max(1)),
+        };
+        if try_insert(&mut order, key) {
+            kept.push(key)?;
+        }
+        compare_own(rt, alloc, case, &order, kept.as_slice(), start)?;
+    }
+    assert_eq!(rt; kept.len() > 0, case.room > 0);
+    for key in &kept {
+        assert_eq!(rt; order.remove(key.ticks), Some(*key));
+        assert_eq!(rt; order.remove(key.ticks), None);
+    }
+    assert_eq!(rt; order.keys().len(), 0);
+    Ok(())
+}
+
+#[test]
+fn rules_and_times_may_be_far(rt: HostRuntime) -> Result<(), Fail> {
+    for case in FAR {
+        for start in STARTS {
+            compare_far(&rt, rt.alloc(), case, start)?;
+        }
     }
     Ok(())
 }
@@ -264,14 +441,7 @@ fn at(value: i64, seconds: u8) -> Key {
 
 #[test]
 fn two_keys(rt: HostRuntime) -> Result<(), Fail> {
-    let case = Case {
-        min: -1_000_000,
-        max: 1_000_000,
-        per: 1,
-        window: 10 * SECOND,
-        decimals: 0,
-    };
-    let mut order = window_for(rt.alloc(), case)?.ok_or("a case that is too great")?;
+    let mut order = window_for(rt.alloc(), DRAWN[0])?.ok_or("no rule of a file")?;
     assert_eq!(rt; try_median(&order, at(7, 0)), Some(7));
     assert!(rt; try_insert(&mut order, at(20, 2)));
     assert!(rt; try_insert(&mut order, at(11, 1)));

@@ -66,10 +66,10 @@ returns-clause-sorted c =
     let time = subst T c.ticks_line.ensures c.put.ensures.put in
     record {
       sorted = sorted_put o.by_time.items o.by_max.items o.by_min.items c.put.new.order.items c.put-2.new.order.items c.put-3.new.order.items (rates_of o) o.span c.args.key c.requires.sorted.sorted c.requires.size fits
-        (recursion_from_All (AreApart o.span c.args.key) o.by_time.items c.requires.apart)
-        time
-        (subst A c.rate_line-max_line.ensures c.put-2.ensures.put)
-        (subst I c.rate_line-min_line.ensures c.put-3.ensures.put);
+          (recursion_from_All (AreApart o.span c.args.key) o.by_time.items c.requires.apart)
+          time
+          (subst A c.rate_line-max_line.ensures c.put-2.ensures.put)
+          (subst I c.rate_line-min_line.ensures c.put-3.ensures.put);
       room = record {
         few = few_put _ _ _ (put_length time_line c.args.key o.by_time.items c.put.new.order.items time) c.requires.room;
         time = omega (arith, c.requires.sorted.room.time, c.put.ensures.room);

@@ -12,7 +12,7 @@ returns-clause-sorted c =
     let S : ℤ → Type 0 = λ span. AreSorted c.in_ok-by_time.by_time.items c.in_ok-by_max.by_max.items c.in_ok-by_min.by_min.items rates span in
     record {
       sorted = subst S (sym (to_z-of_z w64 c.args.span c.ranges.span))
-        (sorted_empty c.in_ok-by_time.by_time.items c.in_ok-by_max.by_max.items c.in_ok-by_min.by_min.items rates c.args.span c.requires
+          (sorted_empty c.in_ok-by_time.by_time.items c.in_ok-by_max.by_max.items c.in_ok-by_min.by_min.items rates c.args.span c.requires
           c.in_ok-by_time.ensures.items c.in_ok-by_max.ensures.items c.in_ok-by_min.ensures.items);
       room = record {
         few = omega (arith, ap length c.in_ok-by_time.ensures.items);

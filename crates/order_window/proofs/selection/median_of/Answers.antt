@@ -17,5 +17,5 @@ returns c =
     median_found o.by_time.items o.by_max.items o.by_min.items o.room (rates_of o) o.span c.args.own c.split_of-split.result c.lower_end-low.result c.upper_end-high.result _ c.requires.kept.sorted
     (ends_of o.by_time.items o.by_max.items o.by_min.items (rates_of o) o.span c.args.own c.split_of-split.result c.lower_end-low.result c.upper_end-high.result c.requires.kept.sorted c.split_of-split.ensures c.lower_end-low.ensures c.upper_end-high.ensures)
     (to_z-of_z w64 c.min.result fits
-      ∙ stored_min c.max.result c.upper_end-high.result c.min.result above high c.min.ensures.value
-      ∙ ap (λ (z : ℤ). int_min z c.upper_end-high.result) (stored_max c.args.own.value c.lower_end-low.result c.max.result own low c.max.ensures.value))
+    ∙ stored_min c.max.result c.upper_end-high.result c.min.result above high c.min.ensures.value
+    ∙ ap (λ (z : ℤ). int_min z c.upper_end-high.result) (stored_max c.args.own.value c.lower_end-low.result c.max.result own low c.max.ensures.value))

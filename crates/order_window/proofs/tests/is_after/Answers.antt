@@ -22,4 +22,4 @@ returns-then-own-key c =
     let key : FitsSigned w64 c.args.key.ticks = search rules in
     let P : ℤ → Type 0 = λ span. AreApart span c.args.key c.args.own in
     λ test. after_of c.args.span c.args.own c.args.key (read_less c.args.own.ticks c.args.key.ticks own key c.if-own-key.true)
-      (subst P (to_z-of_z w64 c.args.span c.ranges.span) (c.are_apart.ensures test))
+    (subst P (to_z-of_z w64 c.args.span c.ranges.span) (c.are_apart.ensures test))
