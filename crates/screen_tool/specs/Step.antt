@@ -52,6 +52,15 @@ pub record IsReplyOf (answer : Answer) (reply : Reply) : Type 0 where
   pub cert : answer.cert ≡ option_map (λ text. text.items) reply.cert
   pub out : answer.out ≡ option_map (λ text. text.items) reply.out
 
+-- What comes of files that are accepted, to which these are the answers: the reply of one of them; the end by one that
+-- writes nothing; or want of memory.
+abbrev pub Comes : (Answer → Type 0) → Result Reply Ending → Type 0
+Comes Answers (Ok reply) = (answer : Answer) × IsReplyOf answer reply × Answers answer
+Comes Answers (Err (ending.Ended outcome)) = (answer : Answer) × (answer.outcome ≡ outcome) × (answer.cert ≡ None) × (answer.out ≡ None) × Answers answer
+Comes Answers (Err ending.ReadFault) = ⊥
+Comes Answers (Err ending.WriteFault) = ⊥
+Comes Answers (Err ending.Memory) = Unit {0}
+
 module _ {S : Type 0} (left : S → Option (List ℕ)) (source_faults : S → ℕ) where
   -- Reading stopped, and what came is the front of what was there; this happened to the count of faults.
   abbrev pub IsStopped : (ℕ → ℕ → Type 0) → S → S → Type 0

@@ -1,5 +1,5 @@
 //! Whether readings keep the bounds that their rules make.
-ghost use Rattle.std.specs.Prelude.{◌↔◌, ◌≤◌, length, IsTrue};
+ghost use Rattle.std.specs.Prelude.{◌≡◌, ◌↔◌, ◌≤◌, length, pos, IsTrue};
 ghost use Rattle.std.specs.List.{AllByRecursion};
 ghost use Rattle.bound_maker.specs.declared.maker.TheConstants.{MOST_BOUNDS};
 ghost use Rattle.screen_model.specs.Obeys.{Keeps};
@@ -17,5 +17,12 @@ pub(crate) fn keep_all(table: &Table, rules: &Rules, bounds: &BoundList) -> bool
 {
     let series = table.series();
     first_broken(table, rules, bounds, series).is_none()
-        && paid_of(table, rules, bounds, series) == 0
+        && is_nothing(paid_of(table, rules, bounds, series))
+}
+
+/// Whether nothing is paid.
+fn is_nothing(paid: i128) -> bool
+    ensures { IsTrue result ↔ (paid ≡ pos 0) }
+{
+    paid == 0
 }

@@ -1,7 +1,8 @@
 //! The certificates that commands write.
 ghost use Rattle.std.specs.Prelude.{◌≡◌, IfOk};
-ghost use Rattle.screen_tool.specs.Global.{has_price as has_a_price, unchanged_cert_text};
+ghost use Rattle.screen_tool.specs.Global.{unchanged_cert_text};
 
+use crate::prices::has_price;
 use cert_format::{Cert, SetList, write_cert};
 use rule_file::Rules;
 use screen_model::FlowList;
@@ -28,15 +29,4 @@ pub(crate) fn unchanged_cert(alloc: Global, rules: &Rules) -> Result<Vec<u8>, Al
         }
     };
     write_cert(alloc, &cert)
-}
-
-/// Whether some rule has a price. Trust and weight rules have none.
-fn has_price(rules: &Rules) -> bool
-    ensures { result ≡ has_a_price rules.now }
-{
-    rules.speeds.as_slice().iter().any(|rule| rule.price > 0)
-        || rules.swings.as_slice().iter().any(|rule| rule.price > 0)
-        || rules.drifts.as_slice().iter().any(|rule| rule.price > 0)
-        || rules.ranges.as_slice().iter().any(|rule| rule.price > 0)
-        || rules.betweens.as_slice().iter().any(|rule| rule.price > 0)
 }

@@ -2,8 +2,8 @@
 ghost use Rattle.std.specs.Prelude.{◌≡◌, ◌≢◌, Err, IfOk, MatchResult};
 ghost use Rattle.series_csv.specs.Readings.{values};
 ghost use Rattle.series_csv.specs.Text.{table_text as text_of_table};
-ghost use Rattle.screen_tool.specs.Global.{AnswersGlobal, unchanged as unchanged_answer};
-ghost use Rattle.screen_tool.specs.Step.{Ends, IsReplyOf, Replies};
+ghost use Rattle.screen_tool.specs.Global.{AnswersGlobal, AnswersTable, unchanged as unchanged_answer};
+ghost use Rattle.screen_tool.specs.Step.{Comes, Ends, IsReplyOf, Replies};
 
 use crate::bounds::keep_all;
 use crate::cert::unchanged_cert;
@@ -31,11 +31,20 @@ pub(crate) fn global<S: Source>(alloc: Global, ins: &mut Inputs<S>) -> Result<Re
     files_are_one();
     let rules = rules_from(alloc, &mut ins.rules)?;
     let table = table_from(alloc, &rules, &mut ins.readings)?;
-    let bounds = make(alloc, &table, &rules)?;
-    if !keep_all(&table, &rules, &bounds) {
+    reply_over(alloc, &rules, &table)
+}
+
+/// What is answered to rules and readings that are accepted.
+fn reply_over(alloc: Global, rules: &Rules, table: &Table) -> Result<Reply, Ending>
+    ensures answer { Comes (AnswersTable rules.now table.now) result }
+    ensures done { IfOk result (λ reply. reply.outcome ≡ Outcome.Done) }
+    ensures no_usage { result ≢ Err (Ending.Ended Outcome.Usage) }
+{
+    let bounds = make(alloc, table, rules)?;
+    if !keep_all(table, rules, &bounds) {
         return Err(Ending::Ended(Outcome::NeedsRepair));
     }
-    let reply = unchanged(alloc, &rules, &table)?;
+    let reply = unchanged(alloc, rules, table)?;
     Ok(reply)
 }
 

@@ -13,6 +13,7 @@ mod global;
 mod laws;
 mod note;
 mod outside;
+mod prices;
 mod program;
 mod reply;
 mod status;

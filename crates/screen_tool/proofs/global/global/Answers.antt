@@ -1,0 +1,21 @@
+use Rattle.std.proofs.lemmas.Result.{err_from_is_err_and}
+use Rattle.screen_tool.proofs.Steps.{rules_end, readings_end, table_comes, readings_no_usage, err_one}
+use Rattle.screen_tool.proofs.global.global.Goals as goal
+
+pub returns-in_err-rules-clause-answer : goal.returns-in_err-rules-clause-answer
+returns-in_err-rules-clause-answer g c =
+    let p = err_from_is_err_and c.from_residual.result c.from_residual.ensures.1 in
+    rw (p.1, p.2) (rules_end g.S.Source.left g.S.Source.faults _ _ _ c.in_err-rules.ensures)
+
+pub returns-in_err-table-clause-answer : goal.returns-in_err-table-clause-answer
+returns-in_err-table-clause-answer g c =
+    let p = err_from_is_err_and c.from_residual-in_err-table.result c.from_residual-in_err-table.ensures.1 in
+    rw (p.1, p.2) (readings_end g.S.Source.left g.S.Source.faults c.files_are_one.ensures.rules _ _ _ _ _ c.in_ok-rules.ensures c.in_err-table.ensures)
+
+pub returns-in_err-table-clause-no_usage : goal.returns-in_err-table-clause-no_usage
+returns-in_err-table-clause-no_usage g c =
+    let p = err_from_is_err_and c.from_residual-in_err-table.result c.from_residual-in_err-table.ensures.1 in
+    rw (p.1, p.2) (λ same. readings_no_usage c.in_err-table.field-0.0 (err_one same))
+
+pub returns-clause-answer : goal.returns-clause-answer
+returns-clause-answer g c = table_comes g.S.Source.left g.S.Source.faults c.files_are_one.ensures.rules _ _ _ _ _ _ c.in_ok-rules.ensures c.in_ok-table.ensures c.reply_over.ensures.answer
