@@ -22,7 +22,7 @@ use Rattle.screen_tool.specs.Answer.{Extent, Whole, Begun, Unread, Answer, AreFr
 use Rattle.screen_tool.specs.Answers.{Answers, OneOutcome, RestsOnRead}
 use Rattle.screen_tool.specs.Command.{roles_of}
 use Rattle.screen_tool.specs.Ending.{outcome_status, status_of}
-use Rattle.screen_tool.specs.Files.{RulesAreOne, ReadingsAreOne, AfterReadings, HasFewBounds, rules_too_long, rules_refused, readings_too_long, readings_refused}
+use Rattle.screen_tool.specs.Files.{RulesAreOne, ReadingsAreOne, AfterReadings, rules_too_long, rules_refused, readings_too_long, readings_refused}
 use Rattle.screen_tool.specs.Global.{AnswersGlobal, AnswersTable, AnswersBounds, ReadingsKeepAll, unchanged, needs_repair, unchanged_cert_text, unchanged_text}
 use Rattle.screen_tool.specs.Headline.{CountsReadFault, CountsWriteFault, IsApartFromFaults, Headline}
 use Rattle.screen_tool.specs.Performance.{IsRead, IsAnswered, Stops, LeavesSinks, IsWritten, AreWritten, IsCut, AreCut, Performs, AreTold, IsDue}

@@ -27,7 +27,7 @@ pub(crate) fn global<S: Source>(alloc: Global, ins: &mut Inputs<S>) -> Result<Re
     ensures no_usage { result ≢ Err (Ending.Ended Outcome.Usage) }
     ensures unread { ins.new.cert ≡ ins.old.cert }
 {
-    // The law behind what stops the command; it does nothing.
+    // The law that shows where the command stops; it does nothing.
     files_are_one();
     let rules = rules_from(alloc, &mut ins.rules)?;
     let table = table_from(alloc, &rules, &mut ins.readings)?;

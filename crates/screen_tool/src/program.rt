@@ -48,7 +48,7 @@ pub fn run<S: Source, K: Sink>(
     ensures headline { command_of (texts words.now) ≡ Some Command.Global →
         Headline S.left S.faults K.held K.faults ins.old ins.new outs.old outs.new result }
 {
-    // The laws behind `due` and `headline`; they do nothing.
+    // The laws that show `due` and `headline`; they do nothing.
     files_are_one();
     one_outcome();
     rests_on_read();

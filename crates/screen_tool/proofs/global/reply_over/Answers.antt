@@ -1,4 +1,4 @@
-use Rattle.std.proofs.Common.{refl, inl, inr}
+use Rattle.std.proofs.Common.{refl}
 use Rattle.std.proofs.lemmas.Result.{err_from_is_err_and}
 use Rattle.screen_tool.specs.Global.{unchanged, needs_repair}
 use Rattle.screen_tool.proofs.Steps.{bounds_come, break_comes, keep_comes, bounds_no_usage, err_one}

@@ -1,4 +1,3 @@
-use Rattle.std.specs.Prelude.{ℕ}
 use Rattle.series_rows.specs.declared.limits.Limits.TheVariants.{Whole}
 use Rattle.screen_tool.proofs.laws.files_are_one.Goals as goal
 
