@@ -1,0 +1,14 @@
+pub mod Binding
+pub mod Chains
+pub mod Changes
+pub mod Distinct
+pub mod Excess
+pub mod Found
+pub mod Gathered
+pub mod Named
+pub mod Parts
+pub mod Payments
+pub mod Rules
+pub mod Sliding
+pub mod Weights
+pub mod Windows
