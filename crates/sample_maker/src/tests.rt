@@ -1,3 +1,4 @@
+//! The texts of few and of many rows, and their sums.
 use crate::sample;
 use std::test::Fail;
 
