@@ -73,7 +73,7 @@ pulled problem flow reading p distinct ends there = pull_by_arcs problem.places 
 
 -- ---- a network without excesses
 
-no_place : Place
+pub no_place : Place
 no_place = record { row = 0; col = 0 }
 
 -- the flows on the arcs of the readings

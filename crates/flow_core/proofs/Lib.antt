@@ -4,6 +4,7 @@ pub mod Building
 pub mod Duals
 pub mod Elements
 pub mod Examples
+pub mod Least
 pub mod Optimality
 pub mod Pushing
 pub mod Readings

@@ -29,7 +29,7 @@ use Rattle.bound_graph.proofs.Values.{value_at_node, obeys_is_respects, zero_and
 use Rattle.flow_core.specs.Layout.{FlowNetwork, network_of, reading_arcs, arcs_of, arc_numbered, no_arc, is_unpriced, unpriced_capacity, capacity_at_price, capacity_numbered}
 use Rattle.flow_core.specs.State.{NetworkState, flow_on, residual_of, bound_flows, value}
 use Rattle.flow_core.specs.Views.{reversed, is_residual, is_bare, tight_arcs}
-use Rattle.flow_core.specs.Laws.{FlowIsTight, SolvedIsBest}
+use Rattle.flow_core.specs.Laws.{FlowIsTight, SolvedIsBest, TightIsBest}
 use Rattle.flow_core.proofs.Elements.{zip_at}
 use Rattle.flow_core.proofs.Sizes.{length-arcs_of, length-flows, capacity_of_bound, capacity_of_reading}
 use Rattle.flow_core.proofs.BothWays.{unpriced_below, there_by_arc, back_by_arc}
@@ -146,7 +146,7 @@ abbrev pub TightSeries : Problem → List ℤ → List ℤ → Type 0
 TightSeries problem flows series =
     AreTight (record { network = network_of problem; flows = flows; excesses = []; potentials = pos 0 ∷ series; changes = 0 })
 
-bound_at : (problem : Problem) (k : ℕ) → k < length problem.bounds → arc_numbered (network_of problem) k ≡ arc_of_bound problem.places (get_or problem.bounds k no_bound).bound
+pub bound_at : (problem : Problem) (k : ℕ) → k < length problem.bounds → arc_numbered (network_of problem) k ≡ arc_of_bound problem.places (get_or problem.bounds k no_bound).bound
 bound_at problem k below =
     let of_bounds = map (λ (priced : Priced). priced.bound) problem.bounds in
     let arcs = arcs_of_bounds problem.places of_bounds in
@@ -155,10 +155,10 @@ bound_at problem k below =
     ∙ get_or-map (arc_of_bound problem.places) of_bounds k no_bound.bound no_arc (omega (arith, long))
     ∙ ap (arc_of_bound problem.places) (get_or-map (λ (priced : Priced). priced.bound) problem.bounds k no_bound no_bound.bound below)
 
-price_at : (problem : Problem) (k d : ℕ) → k < length problem.bounds → get_or (network_of problem).prices k d ≡ (get_or problem.bounds k no_bound).price
+pub price_at : (problem : Problem) (k d : ℕ) → k < length problem.bounds → get_or (network_of problem).prices k d ≡ (get_or problem.bounds k no_bound).price
 price_at problem k d below = get_or-map (λ (priced : Priced). priced.price) problem.bounds k no_bound d below
 
-gain_by_arc : (problem : Problem) (series : List ℤ) (bound : Bound) → IsSeries problem series
+pub gain_by_arc : (problem : Problem) (series : List ℤ) (bound : Bound) → IsSeries problem series
     → rise problem.places series bound ≡ value_of (pos 0 ∷ series) (arc_of_bound problem.places bound).head -ℤ value_of (pos 0 ∷ series) (arc_of_bound problem.places bound).tail
 gain_by_arc problem series bound whole = λ i. value_at_node problem.places series bound.second whole i -ℤ value_at_node problem.places series bound.first whole i
 
@@ -193,7 +193,7 @@ bound_is_paid problem flows series k whole is tight below =
     respected (tight.more k inside (omega (arith, ints, flow, room, ap pos price))))
     (λ some. turned (tight.back k inside (omega (arith, ints, flow, some))))
 
-one_more : (r : ℕ) → 1 + r ≡ suc r
+pub one_more : (r : ℕ) → 1 + r ≡ suc r
 one_more r = omega arith
 
 reading_is_changed : (problem : Problem) (flows series : List ℤ) (r : ℕ) → IsSeries problem series → IsDual problem flows → TightSeries problem flows series → length problem.values ≡ length problem.weights → length series ≡ length problem.weights → r < length problem.weights
@@ -280,31 +280,36 @@ respects_if_free problem flows series k (Some arc) tight is =
     subst (λ (a : Arc). RespectsArc (pos 0 ∷ series) a) (bound_at problem k is.below ∙ is.arc_is)
     (tight.free k inside (eq-eqb (get_or network.prices k 1) 0 (price_at problem k 1 is.below ∙ is.price_is)))
 
--- ---- the law
+-- ---- the laws
 
-pub solved : SolvedIsBest
-solved problem net is solves =
+-- what the arcs ask of a series, in the network of a problem
+pub tight_in : (problem : Problem) (net : NetworkState) (series : List ℤ) → net.network ≡ network_of problem → RespectsArcs (pos 0 ∷ series) (tight_arcs net) → TightSeries problem net.flows series
+tight_in problem net series same respects =
+    let tight = are_tight (record net { potentials = pos 0 ∷ series }) respects in
+    subst (λ (n : FlowNetwork). AreTight (record { network = n; flows = net.flows; excesses = []; potentials = pos 0 ∷ series; changes = 0 })) same
+    (record { free = tight.free; more = tight.more; back = tight.back })
+
+pub tight_is_best : TightIsBest
+tight_is_best problem net series is solves whole respects =
     let balanced = λ (reading : ℕ) (below : reading < length net.network.values). solves.balanced (suc reading) in
     let all = dual problem net is balanced in
-    let series = series_of net.potentials in
-    let network = net.network in
-    let sound = is.sound in
-    let valued = sound.valued in
-    let values_same : length network.values ≡ length problem.values = ap (λ (n : FlowNetwork). length n.values) is.same in
-    let nodes : length net.potentials ≡ suc (length problem.places) = omega (arith, is.network.potential_each) in
-    let potentials = potentials_are net.potentials (length problem.places) nodes is.network.potential_zero in
-    let whole : IsSeries problem series = omega (arith, ap (λ (ps : List ℤ). length ps) potentials) in
-    let tight_net = are_tight net solves.obeyed in
-    let tight : TightSeries problem net.flows series =
-    subst (λ (n : FlowNetwork). AreTight (record { network = n; flows = net.flows; excesses = []; potentials = pos 0 ∷ series; changes = 0 })) is.same
-    (subst (λ (ps : List ℤ). AreTight (record { network = net.network; flows = net.flows; excesses = []; potentials = ps; changes = 0 })) potentials
-    (record { free = tight_net.free; more = tight_net.more; back = tight_net.back })) in
+    let tight = tight_in problem net series is.same respects in
     let obeys : Obeys problem.places series problem.bounds = (obeys_is_respects problem.places series problem.bounds whole).1
     (λ k. respects_if_free problem net.flows series k (arc_at (unpriced_arcs problem.places problem.bounds) k) tight (free_bound problem.places problem.bounds k)) in
     let long : length net.flows ≡ length (arcs_of (network_of problem)) = length-flows net is.network ∙ ap (λ (n : FlowNetwork). length (arcs_of n)) is.same in
-    let equal = cost_is problem net.flows series sound whole long all tight in
+    let equal = cost_is problem net.flows series is.sound whole long all tight in
     let amounts : take (length (network_of problem).bounds) net.flows ≡ bound_flows net = λ i. take (length (sym is.same i).bounds) net.flows in
-    let best : IsBest problem series (take (length (network_of problem).bounds) net.flows) = record { sound = sound; whole = whole; obeys = obeys; admissible = all.admissible; equal = equal } in
+    let best : IsBest problem series (take (length (network_of problem).bounds) net.flows) = record { sound = is.sound; whole = whole; obeys = obeys; admissible = all.admissible; equal = equal } in
     let valued_is : value net ≡ dual_value problem (take (length (network_of problem).bounds) net.flows) =
     (λ i. pos 0 -ℤ inner_product net.flows (map (λ arc. arc.cost) (arcs_of (is.same i)))) ∙ all.value_is in
     (subst (IsBest problem series) amounts best, valued_is ∙ equal)
+
+pub solved : SolvedIsBest
+solved problem net is solves =
+    let sound = is.sound in
+    let valued = sound.valued in
+    let values_same : length net.network.values ≡ length problem.values = ap (λ (n : FlowNetwork). length n.values) is.same in
+    let nodes : length net.potentials ≡ suc (length problem.places) = omega (arith, is.network.potential_each) in
+    let potentials = potentials_are net.potentials (length problem.places) nodes is.network.potential_zero in
+    let whole : IsSeries problem (series_of net.potentials) = omega (arith, ap (λ (ps : List ℤ). length ps) potentials) in
+    tight_is_best problem net (series_of net.potentials) is solves whole (subst (λ (ps : List ℤ). RespectsArcs ps (tight_arcs net)) potentials solves.obeyed)

@@ -1,17 +1,17 @@
 -- To be believed: what a flow network says of the problem that it was made of.
-use Rattle.std.specs.Prelude.{◌≡◌, ℕ, suc, ◌/◌, ◌<◌, true, ℤ, pos, ◌+ℤ◌, ◌-ℤ◌, ◌<ℤ◌, List, length, map, Some, slice_get}
+use Rattle.std.specs.Prelude.{◌≡◌, ℕ, suc, ◌/◌, ◌<◌, true, ℤ, pos, ◌+ℤ◌, ◌-ℤ◌, ◌≤ℤ◌, ◌<ℤ◌, List, ◌∷◌, length, map, Some, slice_get}
 use Rattle.std.specs.List.{AllByRecursion}
 use Rattle.words.specs.Lists.{Distinct}
 use Rattle.screen_model.specs.declared.place.Place.{Place}
-use Rattle.screen_model.specs.Obeys.{Priced, HasEnds}
-use Rattle.screen_model.specs.Cost.{Problem, IsProblem, cost}
+use Rattle.screen_model.specs.Obeys.{Priced, HasEnds, Obeys}
+use Rattle.screen_model.specs.Cost.{Problem, IsProblem, IsSeries, cost}
 use Rattle.screen_model.specs.Flow.{pull, IsAdmissible, dual_value}
 use Rattle.screen_model.specs.Best.{IsBest, IsBlocked}
-use Rattle.bound_graph.specs.Values.{value_of, series_of}
+use Rattle.bound_graph.specs.Values.{value_of, RespectsArcs, series_of}
 use Rattle.bound_graph.specs.Cycle.{IsNegativeCycle}
 use Rattle.flow_core.specs.Layout.{network_of, arc_numbered, is_unpriced}
 use Rattle.flow_core.specs.State.{NetworkState, IsNetwork, balance, flow_on, bound_flows, value}
-use Rattle.flow_core.specs.Views.{bare_arcs}
+use Rattle.flow_core.specs.Views.{tight_arcs, bare_arcs}
 use Rattle.flow_core.specs.Solving.{IsSolved}
 
 -- The network is that of a sound problem, whose bounds have their ends among its places.
@@ -45,6 +45,16 @@ BalancedIsAdmissible = (problem : Problem) (net : NetworkState) → IsNetworkOf 
 abbrev pub SolvedIsBest : Type 0
 SolvedIsBest = (problem : Problem) (net : NetworkState) → IsNetworkOf problem net → IsSolved net
     → IsBest problem (series_of net.potentials) (bound_flows net) × (value net ≡ pos (cost problem (series_of net.potentials)))
+
+-- In a solved network a series that respects the tight arcs, with the value 0 at node 0, costs least.
+abbrev pub TightIsBest : Type 0
+TightIsBest = (problem : Problem) (net : NetworkState) (series : List ℤ) → IsNetworkOf problem net → IsSolved net → IsSeries problem series
+    → RespectsArcs (pos 0 ∷ series) (tight_arcs net) → IsBest problem series (bound_flows net) × (value net ≡ pos (cost problem series))
+
+-- And each series that costs least respects them.
+abbrev pub BestIsTight : Type 0
+BestIsTight = (problem : Problem) (net : NetworkState) (series : List ℤ) → IsNetworkOf problem net → IsSolved net → IsSeries problem series
+    → Obeys problem.places series problem.bounds → pos (cost problem series) ≤ℤ value net → RespectsArcs (pos 0 ∷ series) (tight_arcs net)
 
 -- In a solved network, where something flows on a bound without a price, the potentials of its ends differ by its cost.
 abbrev pub FlowIsTight : Type 0

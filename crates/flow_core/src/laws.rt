@@ -1,5 +1,5 @@
 //! Laws of networks: what flows and potentials say of the problem that a network was made of.
-ghost use Rattle.flow_core.specs.Laws.{BalancedEverywhere, BalancedIsAdmissible, FlowIsTight, NegativeCycleIsBlocked, PullIsBalance, SolvedIsBest};
+ghost use Rattle.flow_core.specs.Laws.{BalancedEverywhere, BalancedIsAdmissible, BestIsTight, FlowIsTight, NegativeCycleIsBlocked, PullIsBalance, SolvedIsBest, TightIsBest};
 
 /// A flow over bounds pulls at a reading by what leaves its node on their arcs, less what enters it.
 pub fn pull_is_balance()
@@ -19,6 +19,16 @@ pub fn balanced_is_admissible()
 /// Of a solved network the potentials of the readings cost least, and as much as the network's value.
 pub fn solved_is_best()
     ensures { SolvedIsBest }
+{}
+
+/// In a solved network a series that respects the tight arcs costs least.
+pub fn tight_is_best()
+    ensures { TightIsBest }
+{}
+
+/// In a solved network each series that costs least respects the tight arcs.
+pub fn best_is_tight()
+    ensures { BestIsTight }
 {}
 
 /// In a solved network, where something flows on a bound without a price, the potentials of its ends differ by its cost.

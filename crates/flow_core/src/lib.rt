@@ -15,8 +15,8 @@ mod tests;
 mod views;
 
 pub use laws::{
-    balanced_everywhere, balanced_is_admissible, flow_is_tight, negative_cycle_is_blocked,
-    pull_is_balance, solved_is_best,
+    balanced_everywhere, balanced_is_admissible, best_is_tight, flow_is_tight,
+    negative_cycle_is_blocked, pull_is_balance, solved_is_best, tight_is_best,
 };
 pub use limits::{MOST_BOUNDS, MOST_PRICE, MOST_VALUE, MOST_WEIGHT};
 pub use network::Network;
