@@ -1,0 +1,4 @@
+pub mod Greatest
+pub mod Items
+pub mod Lists
+pub mod OneRepair
