@@ -2,6 +2,7 @@
 use Rattle.std.proofs.Common.{◌≡◌, ℕ, zero, suc, ◌+◌, ◌<◌, ◌≤◌, Bool, true, false, eqb, cond, ℤ, pos, negsuc, ◌≤ℤ◌, List, [], ◌∷◌, ◌++◌, length, map, sum, get_or, take, count_by, refl, sym, ap, ◌∙◌, subst, arith}
 use Rattle.std.specs.List.{AllByRecursion, AllZip}
 use Rattle.std.proofs.lemmas.Int.{ints}
+use Rattle.std.proofs.lemmas.Bool.{cond-false, ne_eqb}
 use Rattle.std.proofs.lemmas.List.Sums.{sum_by-cons}
 use Rattle.words.specs.Lists.{IsPart, none, kept, left_out}
 use Rattle.screen_model.specs.declared.bound.Bound.{Bound}
@@ -27,9 +28,13 @@ items_more (bound ∷ bounds) prices [] k d below long = absurd (omega arith)
 items_more (bound ∷ bounds) [] (amount ∷ flow) zero d below long = refl
 items_more (bound ∷ bounds) (price ∷ prices) (amount ∷ flow) zero d below long = refl
 items_more (bound ∷ bounds) [] (amount ∷ flow) (suc k) d below long =
-    ap (with_item bound.name amount) (items_more bounds [] flow k d (omega arith) (omega arith)) ∙ sym (with_item_before bound.name amount (items_of (take k (with_prices bounds [])) (take k flow)) (with_item (get_or bounds k d).name (get_or flow k (pos 0)) []))
+    let more : suc k + 1 ≡ suc (k + 1) = omega arith in
+    (λ i. items_of (take (more i) (with_prices (bound ∷ bounds) [])) (take (more i) (amount ∷ flow)))
+    ∙ ap (with_item bound.name amount) (items_more bounds [] flow k d (omega arith) (omega arith)) ∙ sym (with_item_before bound.name amount (items_of (take k (with_prices bounds [])) (take k flow)) (with_item (get_or bounds k d).name (get_or flow k (pos 0)) []))
 items_more (bound ∷ bounds) (price ∷ prices) (amount ∷ flow) (suc k) d below long =
-    ap (with_item bound.name amount) (items_more bounds prices flow k d (omega arith) (omega arith)) ∙ sym (with_item_before bound.name amount (items_of (take k (with_prices bounds prices)) (take k flow)) (with_item (get_or bounds k d).name (get_or flow k (pos 0)) []))
+    let more : suc k + 1 ≡ suc (k + 1) = omega arith in
+    (λ i. items_of (take (more i) (with_prices (bound ∷ bounds) (price ∷ prices))) (take (more i) (amount ∷ flow)))
+    ∙ ap (with_item bound.name amount) (items_more bounds prices flow k d (omega arith) (omega arith)) ∙ sym (with_item_before bound.name amount (items_of (take k (with_prices bounds prices)) (take k flow)) (with_item (get_or bounds k d).name (get_or flow k (pos 0)) []))
 
 -- ---- what holds of all items
 
@@ -44,7 +49,7 @@ items_in_order (priced ∷ bounds) (negsuc n ∷ flow) long = kept (items_in_ord
 
 capacity_within : (unpriced price : ℕ) → price ≤ unpriced → capacity_at_price unpriced price ≤ unpriced
 capacity_within unpriced zero low = omega arith
-capacity_within unpriced (suc price) low = low
+capacity_within unpriced (suc price) low = subst (λ c. c ≤ unpriced) (sym (cond-false (eqb (suc price) 0) unpriced (suc price) (ne_eqb (suc price) 0 (λ e. absurd (omega arith))))) low
 
 item_within : (name : BoundName) (amount : ℤ) (items : List FlowItem) (most : ℕ) → amount ≤ℤ pos most → AllByRecursion (λ item. item.amount ≤ℤ pos most) items → AllByRecursion (λ item. item.amount ≤ℤ pos most) (with_item name amount items)
 item_within name (pos zero) items most here rest = rest

@@ -1,3 +1,5 @@
+pub mod Change
+pub mod Cycles
 pub mod Greatest
 pub mod Items
 pub mod Lists

@@ -16,9 +16,8 @@ pub(crate) fn cycle_in(
 {
     let mut names = NameList::with_capacity(alloc, room.cycle_len() as usize)?;
     for place in 0..room.cycle_len() {
-        if let Some(number) = room.cycle_arc(place) {
-            push_name(&mut names, bounds, number / 2)?;
-        }
+        let number = room.cycle_arc(place).unwrap();
+        push_name(&mut names, bounds, number / 2)?;
     }
     Ok(names)
 }

@@ -2,7 +2,7 @@
 ghost use Rattle.std.specs.Prelude.{◌≡◌, [], ◌++◌, length, IfOk, OnOk};
 ghost use Rattle.screen_model.specs.Obeys.{with_prices};
 ghost use Rattle.screen_model.specs.Names.{items_of, with_item};
-ghost use Rattle.flow_core.specs.State.{bound_flows};
+ghost use Rattle.flow_core.specs.State.{IsNetwork, bound_flows};
 
 use flow_core::Network;
 use screen_model::{BoundList, BoundName, FlowItem, FlowList};
@@ -15,7 +15,8 @@ pub(crate) fn flow_in(
     prices: &[u32],
     net: &Network,
 ) -> Result<FlowList, AllocError>
-    requires { length bounds.now ≡ length net.now.network.bounds }
+    requires network { IsNetwork net.now }
+    requires bounds { length bounds.now ≡ length net.now.network.bounds }
     ensures { IfOk result (λ items. items ≡ items_of (with_prices bounds.now prices.now) (bound_flows net.now)) }
 {
     let mut items = FlowList::with_capacity(alloc, flowing(net))?;

@@ -52,16 +52,16 @@ pub(crate) fn change(values: &[i64], weights: &[u32], series: &[i64]) -> i128
     ensures { result ≡ pos (weighted_change weights.now values.now series.now) }
 {
     let mut change = 0i128;
-    for (place, weight) in weights.iter().enumerate() {
-        change += cost(values[place], *weight, series[place]);
+    for place in 0..weights.len() {
+        change += cost(weights[place], values[place], series[place]);
     }
     change
 }
 
 /// What it costs to change a value.
-fn cost(value: i64, weight: u32, x: i64) -> i128
+fn cost(weight: u32, value: i64, x: i64) -> i128
     ensures value { result ≡ pos (weight * unsigned_abs (x -ℤ value)) }
     ensures size { unsigned_abs result ≤ 2 ^ 96 }
 {
-    i128::from(weight) * (i128::from(x) - i128::from(value)).abs()
+    i128::from(weight) * i128::from(x.abs_diff(value))
 }
