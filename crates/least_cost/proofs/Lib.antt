@@ -1,3 +1,4 @@
+pub mod Answering
 pub mod Change
 pub mod Cycles
 pub mod Greatest
