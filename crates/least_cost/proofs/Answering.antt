@@ -3,8 +3,9 @@ use Rattle.std.proofs.Common.{◌≡◌, ℕ, zero, suc, ◌+◌, ◌*◌, ◌/�
 use Rattle.std.specs.Prelude.{slice_get, unsigned_abs}
 use Rattle.std.specs.List.{AllByRecursion, AllZip}
 use Rattle.std.proofs.lemmas.Int.{ints}
-use Rattle.std.proofs.lemmas.List.{length-map, length-take}
-use Rattle.words.specs.Lists.{Distinct, IsPart}
+use Rattle.std.proofs.lemmas.List.{length-map, length-take, take_all}
+use Rattle.words.specs.Lists.{Distinct, IsPart, inner_product}
+use Rattle.words.proofs.Products.{size_of_minus}
 use Rattle.words.proofs.Lists.{all_from_map}
 use Rattle.screen_model.specs.declared.place.Place.{Place}
 use Rattle.screen_model.specs.declared.bound.Bound.{Bound}
@@ -29,7 +30,7 @@ use Rattle.flow_core.specs.Views.{bare_arcs}
 use Rattle.flow_core.specs.Laws.{IsNetworkOf}
 use Rattle.flow_core.proofs.Blocked.{blocked}
 use Rattle.flow_core.proofs.Duals.{split}
-use Rattle.flow_core.proofs.Sizes.{length-flows, length-arcs_of}
+use Rattle.flow_core.proofs.Sizes.{length-flows, length-arcs_of, costs_of, costs_so_far_small}
 use Rattle.least_cost.specs.declared.problem.Problem.{Problem as Lists}
 use Rattle.least_cost.specs.declared.outcome.Outcome.TheVariants.{Repaired, NoSeries}
 use Rattle.least_cost.specs.Answer.{IsRepaired, IsWithoutSeries, AreChanges}
@@ -88,7 +89,7 @@ carried_some [] (amount ∷ flow) all = absurd all
 carried_some (priced ∷ bounds) [] all = absurd all
 carried_some (priced ∷ bounds) (amount ∷ flow) all = (all.0.0, carried_some bounds flow all.1)
 
-bounds_of_network : (lists : Lists) → length (network_of (stated lists)).bounds ≡ length (stated lists).bounds
+pub bounds_of_network : (lists : Lists) → length (network_of (stated lists)).bounds ≡ length (stated lists).bounds
 bounds_of_network lists =
     let bounds = (stated lists).bounds in
     length-map (map (λ (p : Priced). p.bound) bounds) (arc_of_bound lists.places.now) ∙ length-map bounds (λ (p : Priced). p.bound)
@@ -138,3 +139,14 @@ are_changes lists net items most changes network listed counted few =
 -- what is paid is what the series costs less its change
 pub paid_is : (problem : Problem) (series : List ℤ) (all_paid changed : ℤ) → all_paid ≡ pos (cost problem series) → changed ≡ pos (change problem series) → all_paid -ℤ changed ≡ pos (paid problem series)
 paid_is problem series all_paid changed totalled change_is = omega (arith, ints, totalled, change_is)
+
+pub length_priced : (lists : Lists) → length (stated lists).bounds ≡ length lists.bounds.now
+length_priced lists = sym (length-map (stated lists).bounds (λ (priced : Priced). priced.bound)) ∙ ap (λ (bs : List Bound). length bs) (keep lists.bounds.now lists.prices.now).0
+
+pub cost_small : (problem : Problem) (net : NetworkState) (series : List ℤ) → IsNetwork net → value net ≡ pos (cost problem series) → cost problem series ≤ 10 ^ 32
+cost_small problem net series is valued =
+    let sum = inner_product net.flows (costs_of net.network) in
+    let all : take (length net.flows) net.flows ≡ net.flows = take_all (length net.flows) net.flows (omega arith) in
+    let small : unsigned_abs sum ≤ 10 ^ 32 = subst (λ (f : List ℤ). unsigned_abs (inner_product f (costs_of net.network)) ≤ 10 ^ 32) all (costs_so_far_small net (length net.flows) is) in
+    let size : unsigned_abs (value net) ≤ 10 ^ 32 = omega (arith, size_of_minus sum, small) in
+    subst (λ (z : ℤ). unsigned_abs z ≤ 10 ^ 32) valued size
