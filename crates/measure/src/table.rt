@@ -76,11 +76,11 @@ fn print<R: Runtime>(rt: &R, nanos: u128, sum: u64, bytes: &[u8]) -> io::Result<
     println!(rt; "{picos} {sum} {}", bytes.len())
 }
 
-/// The values of all readings, added up.
+/// The sizes of the values of all readings, added up.
 fn sum_of(table: &Table) -> u64 {
     let mut sum = 0u64;
     for value in table.series().as_slice() {
-        sum = sum.wrapping_add(*value as u64);
+        sum = sum.wrapping_add(value.unsigned_abs());
     }
     sum
 }

@@ -1,0 +1,22 @@
+use Rattle.std.proofs.Common.{ℤ, FitsSigned, rules, sym, subst}
+use Rattle.std.specs.Int.{w64}
+use Rattle.fix_point.specs.Rates.{IsWithinReach}
+use Rattle.order_window.proofs.Candidates.{floor_candidate, ticks_between, value_before}
+use Rattle.order_window.proofs.selection.under_floor.Goals as goal
+
+pub floor_rate-step-requires : goal.floor_rate-step-requires
+floor_rate-step-requires c =
+    let own : FitsSigned w64 c.args.own.ticks = search rules in
+    let key : FitsSigned w64 c.args.key.ticks = search rules in
+    let R : ℤ → Type 0 = λ dt. IsWithinReach c.args.rate c.args.d dt in
+    subst R (sym (ticks_between c.args.rate c.args.d c.args.own c.args.key own key c.requires.reach).same) c.requires.reach
+
+pub returns : goal.returns
+returns c =
+    let own : FitsSigned w64 c.args.own.ticks = search rules in
+    let key : FitsSigned w64 c.args.key.ticks = search rules in
+    let value : FitsSigned w64 c.args.key.value = search rules in
+    floor_candidate c.args.rate c.args.d c.args.own c.args.key _ c.floor_rate-step.result _ c.requires.reach.limited.per_least
+    (ticks_between c.args.rate c.args.d c.args.own c.args.key own key c.requires.reach).same
+    c.floor_rate-step.ensures.floor
+    (value_before c.args.key.value c.floor_rate-step.result value c.requires.units c.floor_rate-step.ensures.small).same
