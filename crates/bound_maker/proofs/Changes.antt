@@ -129,7 +129,7 @@ weight_side ruled n first rows i zero p row number at rest (inr later) =
 weight_side ruled n first rows i (suc k) p row number at rest (inr later) =
     let next : p.row ≡ suc n + k = omega (arith, number) in
     let long : length (places_in n (columns first.readings)) ≡ length (weights_in ruled first) =
-        length-map (columns first.readings) (λ (col : ℕ). record { row = n; col = col }) ∙ (length-map first.readings (λ (reading : RowReading). reading.col) ∙ sym (length-map first.readings (weigh ruled first.ticks))) in
+    length-map (columns first.readings) (λ (col : ℕ). record { row = n; col = col }) ∙ (length-map first.readings (λ (reading : RowReading). reading.col) ∙ sym (length-map first.readings (weigh ruled first.ticks))) in
     let place : i ≡ length (weights_in ruled first) + later.0 = omega (arith, later.1, long) in
     ap (slice_get (weights_in ruled first ++ flat_map (weights_in ruled) rows)) place
     ∙ (on_right (weights_in ruled first) (flat_map (weights_in ruled) rows) later.0 ∙ rest later.0 k later.2 next at)

@@ -23,10 +23,10 @@ gathered_more col rows i number row so_far more h count is push =
     let here : suc i ≡ number = omega (arith, count) in
     let rest = readings_from (suc (i + 1)) col (drop (i + 1) rows) in
     let found : readings_from (suc i) col (drop i rows) ≡ before_later number row (reading_in col row) rest =
-        readings_more col rows i row h
-        ∙ (ap (λ r. before_later (suc i) r (reading_in col r) (readings_from (suc (suc i)) col (drop (i + 1) rows))) (sym is)
-        ∙ (ap (λ n. before_later n row (reading_in col row) (readings_from (suc (suc i)) col (drop (i + 1) rows))) here
-        ∙ ap (λ n. before_later number row (reading_in col row) (readings_from n col (drop (i + 1) rows))) next)) in
+    readings_more col rows i row h
+    ∙ (ap (λ r. before_later (suc i) r (reading_in col r) (readings_from (suc (suc i)) col (drop (i + 1) rows))) (sym is)
+    ∙ (ap (λ n. before_later n row (reading_in col row) (readings_from (suc (suc i)) col (drop (i + 1) rows))) here
+    ∙ ap (λ n. before_later number row (reading_in col row) (readings_from n col (drop (i + 1) rows))) next)) in
     ap (λ rs. so_far ++ rs) (found ∙ before_alone number row (reading_in col row) rest)
     ∙ (sym (append_assoc so_far (before_later number row (reading_in col row) []) rest)
     ∙ ap (λ rs. rs ++ rest) (sym push))

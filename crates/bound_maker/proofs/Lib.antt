@@ -1,10 +1,14 @@
 pub mod Binding
 pub mod Chains
 pub mod Changes
+pub mod Counts
 pub mod Distinct
 pub mod Excess
+pub mod Finding
 pub mod Found
 pub mod Gathered
+pub mod Leads
+pub mod Lookups
 pub mod Named
 pub mod Parts
 pub mod Payments

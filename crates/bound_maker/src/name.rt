@@ -96,5 +96,12 @@ fn bound_on_pair(table: &Table, ruled: &Ruled<'_>, d: u32, name: BoundName) -> O
         col: name.col,
         decimals: d,
     };
-    pair_bound(scope, ruled.rule, &mut steps_of(ruled.rule, d), from, to, name.side)
+    pair_bound(
+        scope,
+        ruled.rule,
+        &mut steps_of(ruled.rule, d),
+        from,
+        to,
+        name.side,
+    )
 }

@@ -136,8 +136,8 @@ pub(crate) fn push_rule(
 ) -> Result<(), AllocError>
     requires few { length rows.now ≤ MOST_ROWS }
     requires readings { readings.now ≡ readings_of ruled.now.col rows.now }
-    requires rise { StampsRise readings.now }
-    requires small { AllByRecursion (λ (reading : Reading). unsigned_abs reading.value ≤ 10 ^ 15) readings.now }
+    requires rise { StampsRise (readings_of ruled.now.col rows.now) }
+    requires small { AllByRecursion (λ (reading : Reading). unsigned_abs reading.value ≤ 10 ^ 15) (readings_of ruled.now.col rows.now) }
     requires bounded { IsBounded d (seen_rule ruled.now.rule) }
     ensures { OnOk result (bounds.new ≡ bounds.old ++ bounds_of_kind made_pairs d rows.now ruled.now.number ruled.now.col ruled.now.second (seen_rule ruled.now.rule)) }
 {

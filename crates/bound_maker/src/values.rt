@@ -1,6 +1,6 @@
 //! The bounds of rules on the value of one reading.
 ghost use Rattle.std.specs.Prelude.{◌≡◌, [], ◌++◌, ◌^◌, ◌≤◌, unsigned_abs, if◌then◌else◌, OnOk};
-ghost use Rattle.pair_bounds.specs.Pairs.{is_within};
+ghost use Rattle.pair_bounds.specs.Pairs.{is_within, place_in};
 ghost use Rattle.std.specs.List.{AllByRecursion, count_by};
 ghost use Rattle.bound_maker.specs.declared.reading.Reading.{Reading};
 ghost use Rattle.bound_maker.specs.Bounds.{bounds_in_time, size_bounds, value_bound, value_bounds};
@@ -8,6 +8,7 @@ ghost use Rattle.bound_maker.specs.Bounds.{bounds_in_time, size_bounds, value_bo
 use crate::pairs::{opposite, place_in};
 use crate::reading::Reading;
 use fix_point::MOST_UNITS;
+use pair_bounds::Stamp;
 use rule_file::{RangeRule, TrustRule};
 use screen_model::{Bound, BoundList, BoundName, End, Place, Side};
 use std::alloc::AllocError;
@@ -61,20 +62,28 @@ pub(crate) fn push_sizes(bounds: &mut BoundList, places: &[Place]) -> Result<(),
     Ok(())
 }
 
-/// Adds the bounds of a value at least the one number and at most the other, if the time lies between two others.
+/// A time and another one that is not earlier.
+#[derive(Clone, Copy)]
+struct Period {
+    from: i64,
+    to: i64,
+}
+
+/// Adds the bounds of the value of a reading at least the one number and at most the other, if its time lies in the period.
 fn push_in_time(
     bounds: &mut BoundList,
     number: u32,
-    place: Place,
-    within: bool,
+    col: u32,
+    period: Period,
     least: i64,
     most: i64,
+    stamp: Stamp,
 ) -> Result<(), AllocError>
     requires { unsigned_abs least ≤ 10 ^ 15 }
-    ensures { OnOk result (bounds.new ≡ bounds.old ++ (if within then value_bounds number place least most else [])) }
+    ensures { OnOk result (bounds.new ≡ bounds.old ++ (if is_within period.from period.to stamp.ticks then value_bounds number (place_in col stamp) least most else [])) }
 {
-    if within {
-        push_value(bounds, number, place, least, most)?;
+    if is_between(period.from, period.to, stamp.ticks) {
+        push_value(bounds, number, place_in(col, stamp), least, most)?;
     }
     Ok(())
 }
@@ -89,10 +98,20 @@ pub(crate) fn push_range(
 ) -> Result<(), AllocError>
     ensures { OnOk result (bounds.new ≡ bounds.old ++ bounds_in_time number col rule.now.from rule.now.to (λ value. rule.now.min) (λ value. rule.now.max) readings.now) }
 {
+    let period = Period {
+        from: rule.from,
+        to: rule.to,
+    };
     for reading in readings {
-        let within = is_between(rule.from, rule.to, reading.stamp.ticks);
-        let place = place_in(col, reading.stamp);
-        push_in_time(bounds, number, place, within, rule.min, rule.max)?;
+        push_in_time(
+            bounds,
+            number,
+            col,
+            period,
+            rule.min,
+            rule.max,
+            reading.stamp,
+        )?;
     }
     Ok(())
 }
@@ -108,10 +127,13 @@ pub(crate) fn push_trust(
     requires { AllByRecursion (λ (reading : Reading). unsigned_abs reading.value ≤ 10 ^ 15) readings.now }
     ensures { OnOk result (bounds.new ≡ bounds.old ++ bounds_in_time number col rule.now.from rule.now.to (λ value. value) (λ value. value) readings.now) }
 {
+    let period = Period {
+        from: rule.from,
+        to: rule.to,
+    };
     for reading in readings {
-        let within = is_between(rule.from, rule.to, reading.stamp.ticks);
-        let place = place_in(col, reading.stamp);
-        push_in_time(bounds, number, place, within, reading.value, reading.value)?;
+        let value = reading.value;
+        push_in_time(bounds, number, col, period, value, value, reading.stamp)?;
     }
     Ok(())
 }

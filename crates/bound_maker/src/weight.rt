@@ -1,5 +1,5 @@
 //! The weights of readings, and the change of a series.
-ghost use Rattle.std.specs.Prelude.{◌≡◌, ◌<◌, ◌≤◌, ◌*◌, ◌^◌, ◌-ℤ◌, pos, length, map, Some, slice_get, unsigned_abs, if◌then◌else◌};
+ghost use Rattle.std.specs.Prelude.{◌≡◌, ◌&&◌, ◌<◌, ◌≤◌, ◌*◌, ◌^◌, ◌-ℤ◌, pos, length, map, Some, slice_get, unsigned_abs, if◌then◌else◌};
 ghost use Rattle.std.specs.List.{flat_map};
 ghost use Rattle.screen_model.specs.Cost.{change, weighted_change};
 ghost use Rattle.screen_model.specs.declared.limits.TheConstants.{MOST_COLUMNS, MOST_ROWS};
@@ -7,10 +7,12 @@ ghost use Rattle.rule_keys.specs.declared.key.TableKind.TheVariants as kind;
 ghost use Rattle.rule_file.specs.Numbers.{count_before, rules_in_order};
 ghost use Rattle.series_rows.specs.declared.cell.RowReading.{RowReading};
 ghost use Rattle.series_csv.specs.Readings.{values, values_of};
+ghost use Rattle.pair_bounds.specs.Pairs.{is_within};
 ghost use Rattle.bound_maker.specs.Bounds.{with_columns};
 ghost use Rattle.bound_maker.specs.Costs.{made_problem, weights, weights_at, weight_of, weights_in};
 ghost use Rattle.bound_maker.specs.Weighed.{covering, last_or};
 
+use crate::reading::rows_of;
 use crate::rule::sensor_col;
 use crate::values::is_between;
 use rule_file::{Rules, WeightRule};
@@ -19,13 +21,7 @@ use series_csv::{Header, Row, RowReading, Table};
 
 /// The weight of the last of these weight rules that covers a column at a time, and the weight given where none does. The
 /// place is that of the first rule's sensor among the sensors of all rules.
-fn last_weight(
-    header: &Header,
-    weights: &[WeightRule],
-    first: u32,
-    col: u32,
-    ticks: i64,
-) -> u32
+fn last_weight(header: &Header, weights: &[WeightRule], first: u32, col: u32, ticks: i64) -> u32
     requires first { first ≤ 10000 }
     requires few { length weights.now ≤ 10000 }
     ensures { result ≡ last_or 1 (covering first header.now.sensor_cols weights.now col ticks) }
@@ -33,18 +29,21 @@ fn last_weight(
     let mut weight = 1;
     let mut place = first;
     for rule in weights {
-        let covers = sensor_col(header, place) == col && is_between(rule.from, rule.to, ticks);
-        weight = either(covers, rule.weight, weight);
+        weight = weight_after(weight, rule, sensor_col(header, place) == col, ticks);
         place += 1;
     }
     weight
 }
 
-/// The one number, or the other.
-fn either(first: bool, one: u32, other: u32) -> u32
-    ensures { result ≡ (if first then one else other) }
+/// The weight of a rule that covers a time in its column, and else the weight given.
+fn weight_after(weight: u32, rule: &WeightRule, of_column: bool, ticks: i64) -> u32
+    ensures { result ≡ (if of_column && is_within rule.now.from rule.now.to ticks then rule.now.weight else weight) }
 {
-    if first { one } else { other }
+    if of_column && is_between(rule.from, rule.to, ticks) {
+        rule.weight
+    } else {
+        weight
+    }
 }
 
 /// How many rules stand before the weight rules.
@@ -63,7 +62,13 @@ fn before_weights(rules: &Rules) -> u32
 fn weight_in(header: &Header, rules: &Rules, col: u32, ticks: i64) -> u32
     ensures { result ≡ weight_of (with_columns 1 (rules_in_order rules.now) header.now.sensor_cols) col ticks }
 {
-    last_weight(header, rules.weights.as_slice(), before_weights(rules), col, ticks)
+    last_weight(
+        header,
+        rules.weights.as_slice(),
+        before_weights(rules),
+        col,
+        ticks,
+    )
 }
 
 /// The weight of the reading with this number, counted from 0: that of the weight rule with the greatest number that covers
@@ -116,7 +121,7 @@ pub(crate) fn change_by_rows(table: &Table, rules: &Rules, series: &Series) -> u
     ensures value { result ≡ weighted_change (weights rules.now table.now) (values table.now) series.now }
     ensures small { result ≤ 2 ^ 123 }
 {
-    change_of_rows(table.header(), rules, table.all_rows(), series.as_slice())
+    change_of_rows(table.header(), rules, rows_of(table), series.as_slice())
 }
 
 /// What a series changes in rows.

@@ -1,0 +1,4 @@
+use Rattle.bound_maker.proofs.columns.columns_of.Goals as goal
+
+pub returns : goal.returns
+returns c = ?

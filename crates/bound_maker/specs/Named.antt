@@ -1,0 +1,24 @@
+-- For proofs: what a search for the bound with a name answers.
+use Rattle.std.specs.Prelude.{◌≡◌, ◌≢◌, ℕ, List, Option, Contains, MatchOption}
+use Rattle.std.specs.List.{AllByRecursion}
+use Rattle.screen_model.specs.declared.bound.Bound.{Bound}
+use Rattle.screen_model.specs.declared.bound.BoundName.{BoundName}
+use Rattle.rule_file.specs.declared.rules.SpeedRule.{SpeedRule}
+use Rattle.bound_maker.specs.declared.reading.Reading.{Reading}
+use Rattle.bound_maker.specs.Readings.{all_pairs}
+
+-- no bound of the list has the name
+abbrev pub HasNone : List Bound → BoundName → Type 0
+HasNone bounds name = AllByRecursion (λ (bound : Bound). bound.name ≢ name) bounds
+
+-- the bound of the list that has the name, or nothing where none has it
+abbrev pub Finds : List Bound → BoundName → Option Bound → Type 0
+Finds bounds name found = MatchOption found (HasNone bounds name) (λ bound. Contains bounds bound × (bound.name ≡ name))
+
+-- none of the readings is in the row
+abbrev pub AreElsewhere : ℕ → List Reading → Type 0
+AreElsewhere row readings = AllByRecursion (λ (reading : Reading). reading.stamp.row ≢ row) readings
+
+-- of a speed rule all pairs of readings are looked at
+abbrev pub each_pair : SpeedRule → List Reading → List (Reading × Reading)
+each_pair rule readings = all_pairs readings
