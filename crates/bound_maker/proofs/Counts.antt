@@ -79,7 +79,7 @@ pairs_count number d col rule window pairs has =
     (λ pair. pair_step (pair_bound number rule d col pair.0.stamp pair.1.stamp) (is_pair_within window pair) (λ out side. has.within number d col pair.0.stamp pair.1.stamp side out) (λ in_it side. has.all number d col pair.0.stamp pair.1.stamp side in_it))
     pairs
 
-no_sides : (bound : Side → Option Bound) → ((side : Side) → bound side ≡ None) → both_sides bound ≡ []
+pub no_sides : (bound : Side → Option Bound) → ((side : Side) → bound side ≡ None) → both_sides bound ≡ []
 no_sides bound none = ap (λ o. option_to_list o ++ option_to_list (bound Down)) (none Up) ∙ ap (λ o. option_to_list o) (none Down)
 
 pub no_pairs : (number d col : ℕ) (rule : Rule) (pairs : List (Reading × Reading)) → SpeaksOfNone rule → bounds_of_pairs (pair_bound number rule d col) pairs ≡ []

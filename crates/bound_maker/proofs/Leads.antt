@@ -80,7 +80,7 @@ turned true false = refl
 turned false true = refl
 turned false false = refl
 
-within_is : (least most t : ℤ) → is_within least most t ≡ (int_lt t (most +ℤ pos 1) && not (int_lt t least))
+pub within_is : (least most t : ℤ) → is_within least most t ≡ (int_lt t (most +ℤ pos 1) && not (int_lt t least))
 within_is least most t =
     ap (λ (b : Bool). b && int_le t most) (le_is least t)
     ∙ (ap (λ (b : Bool). not (int_lt t least) && b) (lt_is most t) ∙ turned (int_lt t least) (int_lt t (most +ℤ pos 1)))
@@ -95,7 +95,7 @@ before_both from least most y ordered early = ends_later (y.stamp.ticks -ℤ fro
 -- ---- the readings in the window of the first
 
 -- no reading lies in a window of its own
-not_its_own : (least most a : ℤ) → pos 1 ≤ℤ least → is_within least most (a -ℤ a) ≡ false
+pub not_its_own : (least most a : ℤ) → pos 1 ≤ℤ least → is_within least most (a -ℤ a) ≡ false
 not_its_own least most a h =
     let late : int_le least (a -ℤ a) ≡ false = grind (arith, ints) in
     ap (λ (b : Bool). b && int_le (a -ℤ a) most) late

@@ -7,6 +7,7 @@ pub mod Excess
 pub mod Finding
 pub mod Found
 pub mod Gathered
+pub mod InTime
 pub mod Leads
 pub mod Lookups
 pub mod Named
@@ -14,5 +15,6 @@ pub mod Parts
 pub mod Payments
 pub mod Rules
 pub mod Sliding
+pub mod Steps
 pub mod Weights
 pub mod Windows

@@ -62,28 +62,66 @@ pub(crate) fn push_sizes(bounds: &mut BoundList, places: &[Place]) -> Result<(),
     Ok(())
 }
 
-/// A time and another one that is not earlier.
+/// Between which times a rule speaks of values, and between which numbers they are to lie.
 #[derive(Clone, Copy)]
-struct Period {
+pub(crate) struct Limits {
     from: i64,
     to: i64,
+    least: i64,
+    most: i64,
 }
 
-/// Adds the bounds of the value of a reading at least the one number and at most the other, if its time lies in the period.
+/// The limits of a range rule.
+pub(crate) fn limits_of_range(rule: &RangeRule) -> Limits
+    ensures from { result.from ≡ rule.now.from }
+    ensures to { result.to ≡ rule.now.to }
+    ensures least { result.least ≡ rule.now.min }
+    ensures most { result.most ≡ rule.now.max }
+    ensures small { unsigned_abs result.least ≤ 10 ^ 15 }
+{
+    Limits {
+        from: rule.from,
+        to: rule.to,
+        least: rule.min,
+        most: rule.max,
+    }
+}
+
+/// The limits of a trust rule on a reading.
+pub(crate) fn limits_of_trust(rule: &TrustRule, reading: &Reading) -> Limits
+    ensures from { result.from ≡ rule.now.from }
+    ensures to { result.to ≡ rule.now.to }
+    ensures least { result.least ≡ reading.now.value }
+    ensures most { result.most ≡ reading.now.value }
+{
+    Limits {
+        from: rule.from,
+        to: rule.to,
+        least: reading.value,
+        most: reading.value,
+    }
+}
+
+/// Whether a rule with these limits speaks of a time.
+fn covers(limits: Limits, stamp: Stamp) -> bool
+    ensures { result ≡ is_within limits.from limits.to stamp.ticks }
+{
+    is_between(limits.from, limits.to, stamp.ticks)
+}
+
+/// Adds the bounds of the value at a time in a column, if the rule speaks of that time.
 fn push_in_time(
     bounds: &mut BoundList,
     number: u32,
     col: u32,
-    period: Period,
-    least: i64,
-    most: i64,
+    limits: Limits,
     stamp: Stamp,
 ) -> Result<(), AllocError>
-    requires { unsigned_abs least ≤ 10 ^ 15 }
-    ensures { OnOk result (bounds.new ≡ bounds.old ++ (if is_within period.from period.to stamp.ticks then value_bounds number (place_in col stamp) least most else [])) }
+    requires { unsigned_abs limits.least ≤ 10 ^ 15 }
+    ensures { OnOk result (bounds.new ≡ bounds.old ++ (if is_within limits.from limits.to stamp.ticks then value_bounds number (place_in col stamp) limits.least limits.most else [])) }
 {
-    if is_between(period.from, period.to, stamp.ticks) {
-        push_value(bounds, number, place_in(col, stamp), least, most)?;
+    if covers(limits, stamp) {
+        push_value(bounds, number, place_in(col, stamp), limits.least, limits.most)?;
     }
     Ok(())
 }
@@ -98,20 +136,9 @@ pub(crate) fn push_range(
 ) -> Result<(), AllocError>
     ensures { OnOk result (bounds.new ≡ bounds.old ++ bounds_in_time number col rule.now.from rule.now.to (λ value. rule.now.min) (λ value. rule.now.max) readings.now) }
 {
-    let period = Period {
-        from: rule.from,
-        to: rule.to,
-    };
+    let limits = limits_of_range(rule);
     for reading in readings {
-        push_in_time(
-            bounds,
-            number,
-            col,
-            period,
-            rule.min,
-            rule.max,
-            reading.stamp,
-        )?;
+        push_in_time(bounds, number, col, limits, reading.stamp)?;
     }
     Ok(())
 }
@@ -127,13 +154,9 @@ pub(crate) fn push_trust(
     requires { AllByRecursion (λ (reading : Reading). unsigned_abs reading.value ≤ 10 ^ 15) readings.now }
     ensures { OnOk result (bounds.new ≡ bounds.old ++ bounds_in_time number col rule.now.from rule.now.to (λ value. value) (λ value. value) readings.now) }
 {
-    let period = Period {
-        from: rule.from,
-        to: rule.to,
-    };
     for reading in readings {
-        let value = reading.value;
-        push_in_time(bounds, number, col, period, value, value, reading.stamp)?;
+        let limits = limits_of_trust(rule, reading);
+        push_in_time(bounds, number, col, limits, reading.stamp)?;
     }
     Ok(())
 }

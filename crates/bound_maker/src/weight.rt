@@ -1,15 +1,15 @@
 //! The weights of readings, and the change of a series.
-ghost use Rattle.std.specs.Prelude.{◌≡◌, ◌&&◌, ◌<◌, ◌≤◌, ◌*◌, ◌^◌, ◌-ℤ◌, pos, length, map, Some, slice_get, unsigned_abs, if◌then◌else◌};
+ghost use Rattle.std.specs.Prelude.{◌≡◌, ◌&&◌, ◌<◌, ◌≤◌, ◌*◌, ◌^◌, ◌-ℤ◌, pos, length, drop, Some, slice_get, unsigned_abs, if◌then◌else◌};
 ghost use Rattle.std.specs.List.{flat_map};
 ghost use Rattle.screen_model.specs.Cost.{change, weighted_change};
 ghost use Rattle.screen_model.specs.declared.limits.TheConstants.{MOST_COLUMNS, MOST_ROWS};
 ghost use Rattle.rule_keys.specs.declared.key.TableKind.TheVariants as kind;
 ghost use Rattle.rule_file.specs.Numbers.{count_before, rules_in_order};
 ghost use Rattle.series_rows.specs.declared.cell.RowReading.{RowReading};
-ghost use Rattle.series_csv.specs.Readings.{values, values_of};
+ghost use Rattle.series_csv.specs.Readings.{values, values_in, values_of};
 ghost use Rattle.pair_bounds.specs.Pairs.{is_within};
 ghost use Rattle.bound_maker.specs.Bounds.{with_columns};
-ghost use Rattle.bound_maker.specs.Costs.{made_problem, weights, weights_at, weight_of, weights_in};
+ghost use Rattle.bound_maker.specs.Costs.{made_problem, weights, weight_of, weights_in};
 ghost use Rattle.bound_maker.specs.Weighed.{covering, last_or};
 
 use crate::reading::rows_of;
@@ -57,18 +57,13 @@ fn before_weights(rules: &Rules) -> u32
         + rules.trusts.len()) as u32
 }
 
-/// The weight of a reading in a column at a time: that of the weight rule with the greatest number that covers it, and 1
+/// The weight of a reading in a column of a row: that of the weight rule with the greatest number that covers it, and 1
 /// where none does.
-fn weight_in(header: &Header, rules: &Rules, col: u32, ticks: i64) -> u32
-    ensures { result ≡ weight_of (with_columns 1 (rules_in_order rules.now) header.now.sensor_cols) col ticks }
+fn weight_in(header: &Header, rules: &Rules, row: &Row, col: u32) -> u32
+    ensures { result ≡ weight_of (with_columns 1 (rules_in_order rules.now) header.now.sensor_cols) col row.now.ticks }
 {
-    last_weight(
-        header,
-        rules.weights.as_slice(),
-        before_weights(rules),
-        col,
-        ticks,
-    )
+    let ticks = row.ticks();
+    last_weight(header, rules.weights.as_slice(), before_weights(rules), col, ticks)
 }
 
 /// The weight of the reading with this number, counted from 0: that of the weight rule with the greatest number that covers
@@ -77,42 +72,47 @@ pub fn weight_of(table: &Table, rules: &Rules, i: u32) -> u32
     requires { i < length (values table.now) }
     ensures { slice_get (weights rules.now table.now) i ≡ Some result }
 {
+    // There are as many places as readings.
+    let _places = table.places();
     let Some(place) = table.place(i) else {
         return 1;
     };
     let Some(row) = table.row(place.row) else {
         return 1;
     };
-    weight_in(table.header(), rules, place.col, row.ticks())
+    weight_in(table.header(), rules, row, place.col)
 }
 
 /// The distance of a value from a reading, times its weight.
-fn weighted(weight: u32, value: i64, reading: i64) -> u128
-    ensures value { result ≡ weight * unsigned_abs (value -ℤ reading) }
+fn weighted(weight: u32, value: &i64, reading: &RowReading) -> u128
+    ensures value { result ≡ weight * unsigned_abs (value.now -ℤ reading.now.value) }
     ensures small { result ≤ 2 ^ 96 }
 {
-    u128::from(weight) * u128::from(value.abs_diff(reading))
+    u128::from(weight) * u128::from(value.abs_diff(reading.value))
 }
 
 /// What the values of a row change: the sum of their distances from its readings, each times the weight.
-fn change_in(
-    header: &Header,
-    rules: &Rules,
-    ticks: i64,
-    readings: &[RowReading],
-    series: &[i64],
-) -> u128
-    requires few { length readings.now ≤ MOST_COLUMNS }
-    requires long { length readings.now ≤ length series.now }
-    ensures value { result ≡ weighted_change (weights_at (with_columns 1 (rules_in_order rules.now) header.now.sensor_cols) ticks readings.now) (map (λ (reading : RowReading). reading.value) readings.now) series.now }
+fn change_in(header: &Header, rules: &Rules, row: &Row, series: &[i64]) -> u128
+    requires { length row.now.readings ≤ length series.now }
+    ensures value { result ≡ weighted_change (weights_in (with_columns 1 (rules_in_order rules.now) header.now.sensor_cols) row.now) (values_in row.now) series.now }
     ensures small { result ≤ 2 ^ 105 }
 {
+    let readings = row.readings();
     let mut change = 0;
-    for (index, reading) in readings.iter().enumerate() {
-        let weight = weight_in(header, rules, reading.col, ticks);
-        change += weighted(weight, series[index], reading.value);
+    for index in 0..readings.len() {
+        let reading = &readings[index];
+        let weight = weight_in(header, rules, row, reading.col);
+        change += weighted(weight, &series[index], reading);
     }
     change
+}
+
+/// The values of a series after those of a row.
+fn after_row<'a>(series: &'a [i64], row: &Row) -> &'a [i64]
+    requires { length row.now.readings ≤ length series.now }
+    ensures { result.now ≡ drop (length row.now.readings) series.now }
+{
+    &series[row.readings().len()..]
 }
 
 /// What a series changes.
@@ -134,9 +134,8 @@ fn change_of_rows(header: &Header, rules: &Rules, rows: &[Row], series: &[i64]) 
     let mut change = 0;
     let mut rest = series;
     for row in rows {
-        let readings = row.readings();
-        change += change_in(header, rules, row.ticks(), readings, rest);
-        rest = &rest[readings.len()..];
+        change += change_in(header, rules, row, rest);
+        rest = after_row(rest, row);
     }
     change
 }

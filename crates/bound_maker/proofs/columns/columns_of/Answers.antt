@@ -1,4 +1,0 @@
-use Rattle.bound_maker.proofs.columns.columns_of.Goals as goal
-
-pub returns : goal.returns
-returns c = ?
