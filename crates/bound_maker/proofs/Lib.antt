@@ -8,8 +8,10 @@ pub mod Finding
 pub mod Found
 pub mod Gathered
 pub mod InTime
+pub mod KindCounts
 pub mod Leads
 pub mod Lookups
+pub mod Making
 pub mod Named
 pub mod Parts
 pub mod Payments
