@@ -70,7 +70,8 @@ pub(crate) fn ruled_at<'a>(header: &Header, rules: &'a Rules, number: u32) -> Op
 
 /// How many sensors a rule speaks of.
 pub(crate) fn sensor_count(rule: RuleAt<'_>) -> u32
-    ensures { result ≡ length (sensor_names (seen_rule rule.entry)) }
+    ensures count { result ≡ length (sensor_names (seen_rule rule.entry)) }
+    ensures most { result ≤ 2 }
 {
     match rule {
         RuleAt::Between(_) => 2,
