@@ -141,7 +141,7 @@ side_step : {A : Type 0} (xs ys : List A) (i : ℕ) (x : A) → (slice_get xs i 
 side_step xs ys i x (inl here) = inl here
 side_step xs ys i x (inr later) = inr (later.0, omega (arith, later.1), later.2)
 
-either_side : {A : Type 0} (xs ys : List A) (i : ℕ) (x : A) → slice_get (xs ++ ys) i ≡ Some x → (slice_get xs i ≡ Some x) ⊎ ((j : ℕ) × (i ≡ length xs + j) × (slice_get ys j ≡ Some x))
+pub either_side : {A : Type 0} (xs ys : List A) (i : ℕ) (x : A) → slice_get (xs ++ ys) i ≡ Some x → (slice_get xs i ≡ Some x) ⊎ ((j : ℕ) × (i ≡ length xs + j) × (slice_get ys j ≡ Some x))
 either_side [] ys i x found = inr (i, sym (zero-add i), found)
 either_side (y ∷ xs) ys zero x found = inl found
 either_side (y ∷ xs) ys (suc i) x found = side_step xs ys i x (either_side xs ys i x found)
@@ -151,7 +151,7 @@ on_left [] ys i x found = absurd (none_is_some x found)
 on_left (y ∷ xs) ys zero x found = found
 on_left (y ∷ xs) ys (suc i) x found = on_left xs ys i x found
 
-on_right : {A : Type 0} (xs ys : List A) (j : ℕ) → slice_get (xs ++ ys) (length xs + j) ≡ slice_get ys j
+pub on_right : {A : Type 0} (xs ys : List A) (j : ℕ) → slice_get (xs ++ ys) (length xs + j) ≡ slice_get ys j
 on_right [] ys j = ap (slice_get ys) (zero-add j)
 on_right (y ∷ xs) ys j = let next : suc (length xs) + j ≡ suc (length xs + j) = omega arith in ap (slice_get (y ∷ (xs ++ ys))) next ∙ on_right xs ys j
 

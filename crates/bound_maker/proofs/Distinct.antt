@@ -58,7 +58,7 @@ grouped f key k (x ∷ xs) each distinct keys =
 abbrev pub names : List Bound → List BoundName
 names bounds = map (λ bound. bound.name) bounds
 
-map_flat : {A B C : Type 0} (g : B → C) (f : A → List B) (xs : List A) → map g (flat_map f xs) ≡ flat_map (λ x. map g (f x)) xs
+pub map_flat : {A B C : Type 0} (g : B → C) (f : A → List B) (xs : List A) → map g (flat_map f xs) ≡ flat_map (λ x. map g (f x)) xs
 map_flat g f [] = refl
 map_flat g f (x ∷ xs) = map-append g (f x) (flat_map f xs) ∙ ap (λ ys. map g (f x) ++ ys) (map_flat g f xs)
 
@@ -145,13 +145,13 @@ pairs_names bound pairs each apart rows =
     (grouped (λ (pair : Reading × Reading). names (both_sides (bound pair.0.stamp pair.1.stamp))) (λ (name : BoundName). (name.from_row, name.to_row)) rows_of pairs each apart rows)
 
 -- what holds of the names of both
-two_named : (P : BoundName → Type 0) (t : Bool) (up down : Bound) → P up.name → P down.name → AllByRecursion P (names (option_to_list (cond t (Some up) None) ++ option_to_list (cond t (Some down) None)))
+pub two_named : (P : BoundName → Type 0) (t : Bool) (up down : Bound) → P up.name → P down.name → AllByRecursion P (names (option_to_list (cond t (Some up) None) ++ option_to_list (cond t (Some down) None)))
 two_named P true up down first second = (first, (second, tt))
 two_named P false up down first second = tt
 
 -- ---- bounds of one reading
 
-value_named : (P : BoundName → Type 0) (t : Bool) (up down : Bound) → P up.name → P down.name → AllByRecursion P (names (cond t (up ∷ down ∷ []) []))
+pub value_named : (P : BoundName → Type 0) (t : Bool) (up down : Bound) → P up.name → P down.name → AllByRecursion P (names (cond t (up ∷ down ∷ []) []))
 value_named P true up down first second = (first, (second, tt))
 value_named P false up down first second = tt
 
@@ -229,7 +229,7 @@ values_rule number col from to least most readings =
     (all_flat (λ (name : BoundName). name.rule ≡ number) (λ (reading : Reading). names (f reading)) readings
     (λ reading. value_named (λ (name : BoundName). name.rule ≡ number) (is_within from to reading.stamp.ticks) _ _ refl refl))
 
-kind_rule : (d : ℕ) (rows : List RowView) (number col second : ℕ) (rule : Rule) → AllByRecursion (λ (name : BoundName). name.rule ≡ number) (names (bounds_of_kind each_pair d rows number col second rule))
+pub kind_rule : (d : ℕ) (rows : List RowView) (number col second : ℕ) (rule : Rule) → AllByRecursion (λ (name : BoundName). name.rule ≡ number) (names (bounds_of_kind each_pair d rows number col second rule))
 kind_rule d rows number col second (speed rule) =
     pairs_rule number (speed_bound number rule d col) (all_pairs (readings_of col rows)) (λ pair. two_named (λ (name : BoundName). name.rule ≡ number) (is_within (pos 1) rule.window (elapsed pair.0.stamp pair.1.stamp)) _ _ refl refl)
 kind_rule d rows number col second (swing rule) =
@@ -264,7 +264,7 @@ kind_distinct d rows number col second (between rule) = rows_names number 1 col 
 
 -- ---- all rules
 
-numbers_from : (least n : ℕ) (rules : List Rule) (cols : List ℕ) → least ≤ n → AllByRecursion (λ (r : Ruled). least ≤ r.number) (with_columns n rules cols)
+pub numbers_from : (least n : ℕ) (rules : List Rule) (cols : List ℕ) → least ≤ n → AllByRecursion (λ (r : Ruled). least ≤ r.number) (with_columns n rules cols)
 numbers_from least n [] cols h = tt
 numbers_from least n (rule ∷ rules) cols h = (h, numbers_from least (suc n) rules (drop (length (sensor_names rule)) cols) (omega (arith, h)))
 
@@ -286,7 +286,7 @@ sizes_distinct ps distinct =
     (λ place. (((λ same. up_is_down (ap (λ (name : BoundName). name.side) same)), tt), (tt, tt)))
     (subst (λ (qs : List Place). Distinct qs) (sym (map-id ps)) distinct))
 
-sizes_rule : (ps : List Place) → AllByRecursion (λ (name : BoundName). name.rule ≡ 0) (names (size_bounds ps))
+pub sizes_rule : (ps : List Place) → AllByRecursion (λ (name : BoundName). name.rule ≡ 0) (names (size_bounds ps))
 sizes_rule [] = tt
 sizes_rule (place ∷ ps) = (refl, (refl, sizes_rule ps))
 

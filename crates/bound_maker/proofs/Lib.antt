@@ -1,3 +1,4 @@
+pub mod Among
 pub mod Binding
 pub mod Chains
 pub mod Changes
@@ -16,6 +17,7 @@ pub mod Named
 pub mod Parts
 pub mod Payments
 pub mod Rules
+pub mod SensorPlaces
 pub mod Sliding
 pub mod Steps
 pub mod Weights

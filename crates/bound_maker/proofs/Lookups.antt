@@ -11,17 +11,21 @@ use Rattle.screen_model.specs.declared.bound.Side.{Side}
 use Rattle.screen_model.specs.declared.bound.Side.TheVariants.{Up, Down}
 use Rattle.screen_model.specs.declared.place.Place.{Place}
 use Rattle.fix_point.specs.declared.scale.TheConstants.{MOST_UNITS}
+use Rattle.rule_file.specs.Numbers.{Rule, speed, swing, drift, range, trust, weight, between}
 use Rattle.rule_file.specs.declared.rules.BetweenRule.{BetweenRule}
 use Rattle.pair_bounds.specs.Pairs.{between_bound, is_within, limit_on, place_in, rise_bound}
 use Rattle.series_rows.specs.Row.{RowView}
 use Rattle.series_csv.specs.File.{TableView}
 use Rattle.series_csv.specs.Readings.{row_at}
 use Rattle.bound_maker.specs.declared.reading.Reading.{Reading}
-use Rattle.bound_maker.specs.Bounds.{both_sides, bounds_in_rows, bounds_in_time, col_if_read, size_bounds, value_bound, value_bounds}
-use Rattle.bound_maker.specs.Named.{AreElsewhere, Finds, HasNone}
-use Rattle.bound_maker.specs.Readings.{before_later, reading_in, readings_from, readings_of}
+use Rattle.bound_maker.specs.Bounds.{both_sides, bounds_in_rows, bounds_in_time, bounds_of_kind, bounds_of_pairs, col_if_read, size_bounds, value_bound, value_bounds}
+use Rattle.bound_maker.specs.Named.{AreElsewhere, AreUnnamed, Finds, HasNone, IsNamed, each_pair}
+use Rattle.bound_maker.specs.Pairs.{pair_bound}
+use Rattle.bound_maker.specs.Readings.{all_pairs, before_later, reading_in, readings_from, readings_of}
+use Rattle.bound_maker.specs.declared.values.Limits.{Limits}
 use Rattle.bound_maker.proofs.Distinct.{row_of, rows_from}
-use Rattle.bound_maker.proofs.Finding.{if_some, in_both, in_flat, named_so, none_flat, none_of_both, only_in_row, rise_named, same_name, value_named}
+use Rattle.bound_maker.proofs.Finding.{if_some, in_both, in_flat, named_so, none_flat, none_of_both, of_pair, only_in_row, rise_named, same_name, value_named}
+use Rattle.bound_maker.proofs.InTime.{AreLimits}
 
 none_is_some : {A : Type 0} (x : A) → ◌≡◌ {A = Option A} None (Some x) → ⊥
 none_is_some x e = cc
@@ -95,7 +99,19 @@ pub none_without_row : (table : TableView) (r col : ℕ) → None ≡ row_at tab
 none_without_row table zero col none = above 1 0 (readings_of col table.rows) (omega arith) (rows_from 1 1 col table.rows (omega arith))
 none_without_row table (suc k) col none = let number : suc k ≡ 1 + k = omega arith in no_row_found 1 (suc k) col table.rows k (sym none) number
 
+-- the same where the code holds the numbers as these
+pub found_as : (table : TableView) (r col : ℕ) (row : RowView) (value t v : ℤ) → Some row ≡ row_at table r → Some value ≡ reading_in col row → t ≡ row.ticks → v ≡ value
+    → Contains (readings_of col table.rows) (record { stamp = record { row = r; ticks = t }; value = v })
+found_as table r col row value t v at is time same =
+    subst (λ (z : ℤ). Contains (readings_of col table.rows) (record { stamp = record { row = r; ticks = z }; value = v })) (sym time)
+    (subst (λ (z : ℤ). Contains (readings_of col table.rows) (record { stamp = record { row = r; ticks = row.ticks }; value = z })) (sym same)
+    (found_in_row table r col row value at is))
+
 -- ---- the bounds of one reading
+
+each_reading : {P : Reading → Type 0} → ((reading : Reading) → P reading) → (readings : List Reading) → AllByRecursion P readings
+each_reading each [] = tt
+each_reading each (reading ∷ readings) = (each reading, each_reading each readings)
 
 out_and_in : (t : Bool) → t ≡ false → t ≡ true → ⊥
 out_and_in t out within = cc
@@ -125,10 +141,19 @@ module _ (number col : ℕ) (from to : ℤ) (least most : ℤ → ℤ) (name : B
       unnamed refl (ap (λ (n : BoundName). n.from_row) so) (sym (ap (λ (n : BoundName). n.from_row) so) ∙ ap (λ (n : BoundName). n.to_row) so))
   unnamed_step reading false unnamed = tt
 
+  other_step : (reading : Reading) (t : Bool) → col ≢ name.col → HasNone (cond t (value_bounds number (place_in col reading.stamp) (least reading.value) (most reading.value)) []) name
+  other_step reading true other =
+      none_of_both (bound_on reading) name (λ side b is same. other (ap (λ (n : BoundName). n.col) (sym (value_name reading side b is) ∙ same)))
+  other_step reading false other = tt
+
   pub none_on_values : (readings : List Reading) → AllByRecursion IsUnnamed readings → HasNone (bounds_in_time number col from to least most readings) name
   none_on_values readings all =
       none_flat bounds_on name readings
       (all_weaker IsUnnamed (λ (reading : Reading). HasNone (bounds_on reading) name) (λ reading unnamed. unnamed_step reading (is_within from to reading.stamp.ticks) unnamed) readings all)
+
+  -- the name is of another column
+  pub values_elsewhere : (readings : List Reading) → col ≢ name.col → HasNone (bounds_in_time number col from to least most readings) name
+  values_elsewhere readings other = none_flat bounds_on name readings (each_reading (λ reading. other_step reading (is_within from to reading.stamp.ticks) other) readings)
 
   -- the name is of no reading
   pub none_named_so : (readings : List Reading) → AllByRecursion (λ (reading : Reading). reading.stamp.row ≡ name.from_row → name.from_row ≡ name.to_row → ⊥) readings → HasNone (bounds_in_time number col from to least most readings) name
@@ -166,6 +191,16 @@ module _ (from to : ℤ) (least most : ℤ → ℤ) (name : BoundName) where
   finds_value readings reading found distinct has row one is =
       subst (λ (o : Option Bound). Finds (bounds_in_time name.rule name.col from to least most readings) name o) (sym is)
       (value_step readings reading (is_within from to reading.stamp.ticks) refl distinct has row one)
+
+  -- the same with the limits of the rule
+  pub finds_within : (readings : List Reading) (reading : Reading) (limits : Limits) (found : Option Bound) → Distinct (map row_of readings) → IsNamed name readings reading → AreLimits from to least most reading.value limits
+      → found ≡ cond (is_within limits.from limits.to reading.stamp.ticks) (Some (value_bound name.rule (place_in name.col reading.stamp) (limit_on name.side limits.least limits.most) name.side)) None
+      → Finds (bounds_in_time name.rule name.col from to least most readings) name found
+  finds_within readings reading limits found distinct named are is =
+      let on = λ (z : ℤ) (u : ℤ) (v : ℤ) (w : ℤ). cond (is_within z u reading.stamp.ticks) (Some (value_bound name.rule (place_in name.col reading.stamp) (limit_on name.side v w) name.side)) None in
+      finds_value readings reading found distinct named.member named.row_is named.one
+      (is ∙ (ap (λ (z : ℤ). on z limits.to limits.least limits.most) are.from_is ∙ (ap (λ (z : ℤ). on from z limits.least limits.most) are.to_is
+      ∙ (ap (λ (z : ℤ). on from to z limits.most) are.least_is ∙ ap (λ (z : ℤ). on from to (least reading.value) z) are.most_is))))
 
 -- ---- the bounds of rule 0
 
@@ -269,6 +304,34 @@ module _ (number : ℕ) (rule : BetweenRule) where
   rows_found first second n m (suc k) (r ∷ rows) row side bound at place is =
       Contains-append_right (both_sides (between_bound number rule n (col_if_read first r) (col_if_read second r))) (bounds_in_rows (between_bound number rule) first second (suc n) rows) bound
       (rows_found first second (suc n) m k rows row side bound at (omega (arith, place)) is)
+
+-- the name is of another column
+rows_other : (number n first second : ℕ) (rule : BetweenRule) (rows : List RowView) (name : BoundName) → first ≢ name.col → HasNone (bounds_in_rows (between_bound number rule) first second n rows) name
+rows_other number n first second rule [] name other = tt
+rows_other number n first second rule (row ∷ rows) name other =
+    all_append (λ (b : Bound). b.name ≢ name) (both_sides (between_bound number rule n (col_if_read first row) (col_if_read second row))) (bounds_in_rows (between_bound number rule) first second (suc n) rows)
+    (none_of_both (between_bound number rule n (col_if_read first row) (col_if_read second row)) name
+        (λ side b is same. other (ap (λ (m : BoundName). m.col) (sym (row_named number rule n first second row side b is) ∙ same))))
+    (rows_other number (suc n) first second rule rows name other)
+
+each_pair_of : {P : Reading × Reading → Type 0} → ((pair : Reading × Reading) → P pair) → (pairs : List (Reading × Reading)) → AllByRecursion P pairs
+each_pair_of each [] = tt
+each_pair_of each (pair ∷ pairs) = (each pair, each_pair_of each pairs)
+
+pairs_other : (number d col : ℕ) (rule : Rule) (pairs : List (Reading × Reading)) (name : BoundName) → col ≢ name.col → HasNone (bounds_of_pairs (pair_bound number rule d col) pairs) name
+pairs_other number d col rule pairs name other =
+    none_flat (λ (pair : Reading × Reading). both_sides (pair_bound number rule d col pair.0.stamp pair.1.stamp)) name pairs
+    (each_pair_of (λ pair. none_of_both (pair_bound number rule d col pair.0.stamp pair.1.stamp) name
+        (λ side b is same. other (ap (λ (n : BoundName). n.col) (sym (of_pair number d col rule pair.0.stamp pair.1.stamp side b is).named ∙ same)))) pairs)
+
+pub kind_elsewhere : (d : ℕ) (rows : List RowView) (number col second : ℕ) (rule : Rule) (name : BoundName) → col ≢ name.col → HasNone (bounds_of_kind each_pair d rows number col second rule) name
+kind_elsewhere d rows number col second (speed rule) name other = pairs_other number d col (speed rule) (all_pairs (readings_of col rows)) name other
+kind_elsewhere d rows number col second (swing rule) name other = pairs_other number d col (swing rule) (all_pairs (readings_of col rows)) name other
+kind_elsewhere d rows number col second (drift rule) name other = pairs_other number d col (drift rule) (all_pairs (readings_of col rows)) name other
+kind_elsewhere d rows number col second (range rule) name other = values_elsewhere number col rule.from rule.to (λ value. rule.min) (λ value. rule.max) name (readings_of col rows) other
+kind_elsewhere d rows number col second (trust rule) name other = values_elsewhere number col rule.from rule.to (λ value. value) (λ value. value) name (readings_of col rows) other
+kind_elsewhere d rows number col second (weight rule) name other = tt
+kind_elsewhere d rows number col second (between rule) name other = rows_other number 1 col second rule rows name other
 
 -- the bound of a rule between two columns in the row that the name tells
 module _ (rule : BetweenRule) (second : ℕ) (table : TableView) (name : BoundName) where

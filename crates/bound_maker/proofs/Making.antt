@@ -39,7 +39,7 @@ rule_at rules k (suc n) found is at = let same : k ≡ n = omega (arith, is) in 
 pub one_left : (rules : Rules) (k : ℕ) (rule : Rule) → rule_of rules (k + 1) ≡ Some rule → k < length (rules_in_order rules)
 one_left rules k rule at = slice_get_within (rules_in_order rules) k rule (rule_at rules k (k + 1) (Some rule) refl at)
 
-past_end : {A : Type 0} (xs : List A) (k : ℕ) → slice_get xs k ≡ None → length xs ≤ k
+pub past_end : {A : Type 0} (xs : List A) (k : ℕ) → slice_get xs k ≡ None → length xs ≤ k
 past_end [] k none = omega arith
 past_end (x ∷ xs) zero none = absurd (none_is_some x (sym none))
 past_end (x ∷ xs) (suc k) none = omega (arith, past_end xs k none)
@@ -55,6 +55,10 @@ few_sensors (between rule) = omega arith
 
 pub bounded_at : (rules : Rules) (k : ℕ) (rule : Rule) → rule_of rules (k + 1) ≡ Some rule → IsBounded rules.format.decimals rule
 bounded_at rules k rule at = bounded_rule rules k rule (rule_at rules k (k + 1) (Some rule) refl at)
+
+pub bounded_number : (rules : Rules) (number : ℕ) (rule : Rule) → rule_of rules number ≡ Some rule → IsBounded rules.format.decimals rule
+bounded_number rules zero rule at = absurd (none_is_some rule at)
+bounded_number rules (suc k) rule at = bounded_rule rules k rule at
 
 -- ---- one rule more
 

@@ -13,6 +13,7 @@ use Rattle.rule_file.specs.declared.rules.WeightRule.{WeightRule}
 use Rattle.pair_bounds.specs.Pairs.{is_within}
 use Rattle.bound_maker.specs.Bounds.{Ruled, col_of, with_columns}
 use Rattle.bound_maker.specs.Costs.{last_or_one, weight_by, weight_of}
+use Rattle.bound_maker.specs.Ruled.{named}
 use Rattle.bound_maker.specs.Weighed.{covering, last_or}
 
 -- the weight so far, with one rule more
@@ -41,11 +42,6 @@ last_is [] = refl
 last_is (n ∷ ns) = last_same n ns
 
 -- ---- rules with their columns, in lists that are joined
-
--- how many sensors rules name
-abbrev pub named : List Rule → ℕ
-named [] = 0
-named (rule ∷ rules) = length (sensor_names rule) + named rules
 
 pub with_columns-append : (n : ℕ) (xs ys : List Rule) (cols : List ℕ) → with_columns n (xs ++ ys) cols ≡ with_columns n xs cols ++ with_columns (n + length xs) ys (drop (named xs) cols)
 with_columns-append n [] ys cols = ap (λ m. with_columns m ys cols) (sym (add-zero n))

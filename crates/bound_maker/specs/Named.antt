@@ -19,6 +19,16 @@ Finds bounds name found = MatchOption found (HasNone bounds name) (λ bound. Con
 abbrev pub AreElsewhere : ℕ → List Reading → Type 0
 AreElsewhere row readings = AllByRecursion (λ (reading : Reading). reading.stamp.row ≢ row) readings
 
+-- none of the readings is that of the one row that the name tells
+abbrev pub AreUnnamed : BoundName → List Reading → Type 0
+AreUnnamed name readings = AllByRecursion (λ (reading : Reading). reading.stamp.row ≡ name.from_row → name.from_row ≡ name.to_row → ⊥) readings
+
+-- the reading is that of the one row that the name tells
+pub record IsNamed (name : BoundName) (readings : List Reading) (reading : Reading) : Type 0 where
+  pub member : Contains readings reading
+  pub row_is : reading.stamp.row ≡ name.from_row
+  pub one : name.from_row ≡ name.to_row
+
 -- of a speed rule all pairs of readings are looked at
 abbrev pub each_pair : SpeedRule → List Reading → List (Reading × Reading)
 each_pair rule readings = all_pairs readings

@@ -8,7 +8,7 @@ ghost use Rattle.bound_maker.specs.Readings.{readings_of};
 ghost use Rattle.bound_maker.specs.Windows.{HasWindow, SpeaksOfNone, StampsRise};
 ghost use Rattle.rule_file.specs.Numbers.{rule_of, seen_rule, sensor_names};
 ghost use Rattle.bound_maker.specs.Pairs.{HasSteps, IsBounded, is_of_neighbours, pair_bound, pairs_of};
-ghost use Rattle.bound_maker.specs.Ruled.{IsRuled};
+ghost use Rattle.bound_maker.specs.Ruled.{IsRuled, named_before};
 
 use crate::between::push_rows;
 use crate::pairs::{Scope, push_neighbours, push_pairs};
@@ -63,9 +63,14 @@ pub(crate) fn ruled_from<'a>(
 }
 
 /// The rule of a number with the columns of its sensors, if there is one.
-pub(crate) fn ruled_at<'a>(header: &Header, rules: &'a Rules, number: u32) -> Option<Ruled<'a>> {
-    let place = rules.sensor_index(number)?;
-    ruled_from(header, rules, number, place)
+pub(crate) fn ruled_at<'a>(header: &Header, rules: &'a Rules, number: u32) -> Option<Ruled<'a>>
+    ensures { MatchOption result (rule_of rules.now number ≡ None)
+        (λ ruled. IsRuled rules.now header.now.sensor_cols number (named_before rules.now number) (seen_rule ruled.rule) ruled.number ruled.col ruled.second) }
+{
+    match rules.sensor_index(number) {
+        Some(place) => ruled_from(header, rules, number, place),
+        None => None,
+    }
 }
 
 /// How many sensors a rule speaks of.

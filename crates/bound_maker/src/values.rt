@@ -65,10 +65,14 @@ pub(crate) fn push_sizes(bounds: &mut BoundList, places: &[Place]) -> Result<(),
 /// Between which times a rule speaks of values, and between which numbers they are to lie.
 #[derive(Clone, Copy)]
 pub(crate) struct Limits {
-    from: i64,
-    to: i64,
-    least: i64,
-    most: i64,
+    /// The first tick.
+    pub(crate) from: i64,
+    /// The last tick.
+    pub(crate) to: i64,
+    /// The least value.
+    pub(crate) least: i64,
+    /// The greatest value.
+    pub(crate) most: i64,
 }
 
 /// The limits of a range rule.
@@ -103,7 +107,7 @@ pub(crate) fn limits_of_trust(rule: &TrustRule, reading: &Reading) -> Limits
 }
 
 /// Whether a rule with these limits speaks of a time.
-fn covers(limits: Limits, stamp: Stamp) -> bool
+pub(crate) fn covers(limits: Limits, stamp: Stamp) -> bool
     ensures { result ≡ is_within limits.from limits.to stamp.ticks }
 {
     is_between(limits.from, limits.to, stamp.ticks)
