@@ -1,0 +1,11 @@
+pub mod Bounds
+pub mod Broken
+pub mod Columns
+pub mod Costs
+pub mod Laws
+pub mod Named
+pub mod Pairs
+pub mod Readings
+pub mod Ruled
+pub mod Weighed
+pub mod Windows
