@@ -1,0 +1,1 @@
+use Rattle.global_repair.proofs.table.repair.Goals as goal
