@@ -44,11 +44,12 @@ pub fn repair<V: Solver>(
     names_are_distinct(table, rules);
     made_bind_all(table, rules);
     best_over_made(table, rules);
+    let places = table.places();
     let bounds = make(alloc, table, rules)?;
     let weights = weights(alloc, table, rules)?;
     let prices = prices(alloc, rules, &bounds)?;
     let problem = Problem {
-        places: table.places(),
+        places,
         values: table.series(),
         weights: weights.as_slice(),
         bounds: &bounds,

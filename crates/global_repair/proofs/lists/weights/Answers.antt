@@ -19,5 +19,5 @@ pub loop-reading-preserved : goal.loop-reading-preserved
 loop-reading-preserved c =
     one_more (weights c.args.rules.now c.args.table.now) c.loop-reading.list.items c.push.new.self.items c.loop-reading.reading c.weight_of.result c.loop-reading.invariant c.weight_of.ensures c.in_ok-push.ensures.items
 
-pub returns : goal.returns
-returns c = c.loop-reading.invariant ∙ take_all c.loop-reading.reading (weights c.args.rules.now c.args.table.now) (omega (arith, c.requires, c.loop-reading-test.false, c.len-reading-end.ensures.len))
+pub returns-clause-weights : goal.returns-clause-weights
+returns-clause-weights c = c.loop-reading.invariant ∙ take_all c.loop-reading.reading (weights c.args.rules.now c.args.table.now) (omega (arith, c.requires, c.loop-reading-test.false, c.len-reading-end.ensures.len))
