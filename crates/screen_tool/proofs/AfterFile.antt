@@ -3,8 +3,8 @@ use Rattle.std.proofs.Common.{◌≡◌, inl, inr, ℕ, ◌<◌, ◌≤◌, ◌+
 use Rattle.std.proofs.lemmas.List.{length-append}
 use Rattle.screen_tool.specs.Answer.{Extent, Whole, Begun, Answer, AfterFile, AreFront, AreOne}
 
-too_long_and_not : (n m : ℕ) → n < m → m ≤ n → ⊥
-too_long_and_not n m p q = omega (arith, p, q)
+pub more_and_not : (n m : ℕ) → n < m → m ≤ n → ⊥
+more_and_not n m p q = omega (arith, p, q)
 
 module _ {A F : Type 0} (longest : ℕ) (Reads : List ℕ → Result A F → Type 0) (too_long : Answer) (refused : F → Answer) where
   -- every answer has a property that those of the refusals and of what follows have
@@ -33,8 +33,8 @@ module _ {A F : Type 0} (longest : ℕ) (Reads : List ℕ → Result A F → Typ
       → (one other : Answer) → AfterFile longest Reads too_long refused bytes Follows one → AfterFile longest Reads too_long refused bytes Follows other
       → one.outcome ≡ other.outcome
   after_one law bytes Follows follow one other (inl p) (inl q) = ap (λ (a : Answer). a.outcome) (p.1 ∙ sym q.1)
-  after_one law bytes Follows follow one other (inl p) (inr q) = absurd (too_long_and_not longest (length bytes) p.0 q.0)
-  after_one law bytes Follows follow one other (inr p) (inl q) = absurd (too_long_and_not longest (length bytes) q.0 p.0)
+  after_one law bytes Follows follow one other (inl p) (inr q) = absurd (more_and_not longest (length bytes) p.0 q.0)
+  after_one law bytes Follows follow one other (inr p) (inl q) = absurd (more_and_not longest (length bytes) q.0 p.0)
   after_one law bytes Follows follow one other (inr p) (inr q) =
       let same : q.1 ≡ p.1 = law bytes q.1 p.1 q.2 p.2 in
       found_one Follows follow p.1 one other p.3
@@ -43,7 +43,7 @@ module _ {A F : Type 0} (longest : ℕ) (Reads : List ℕ → Result A F → Typ
   -- where the file is accepted the answer is one of those that follow
   pub after_accepted : AreOne Reads → (bytes : List ℕ) (value : A) (Follows : A → Answer → Type 0) (answer : Answer)
       → length bytes ≤ longest → Reads bytes (Ok value) → AfterFile longest Reads too_long refused bytes Follows answer → Follows value answer
-  after_accepted law bytes value Follows answer short reads (inl p) = absurd (too_long_and_not longest (length bytes) p.0 short)
+  after_accepted law bytes value Follows answer short reads (inl p) = absurd (more_and_not longest (length bytes) p.0 short)
   after_accepted law bytes value Follows answer short reads (inr p) =
       let same : p.1 ≡ Ok value = law bytes p.1 (Ok value) p.2 reads in
       subst (λ (found : Result A F). MatchResult found (λ given. Follows given answer) (λ fault. answer ≡ refused fault)) same p.3

@@ -3,9 +3,8 @@ use Rattle.std.proofs.Common.{◌≡◌, ◌≢◌, inl, inr, ℕ, ◌≤◌, Li
 use Rattle.rule_file.specs.declared.rules.Rules.{Rules}
 use Rattle.rule_file.specs.declared.read.TheConstants.{LONGEST as longest_rules}
 use Rattle.rule_file.specs.File.{ReadsFile}
-use Rattle.narrow_csv.specs.declared.table.Row.{Row}
-use Rattle.narrow_csv.specs.declared.read.TheConstants.{LONGEST as longest_readings}
-use Rattle.narrow_csv.specs.ReadingsFile.{Reads as ReadsReadings}
+use Rattle.series_csv.specs.File.{TableView, ReadsTable}
+use Rattle.series_csv.specs.declared.table.TheConstants.{LONGEST as longest_readings}
 use Rattle.screen_io.specs.Faults.{Rose}
 use Rattle.screen_io.specs.Sink.{Gains}
 use Rattle.screen_io.proofs.WholeReads.{taken_front, taken_whole}
@@ -15,7 +14,6 @@ use Rattle.screen_tool.specs.declared.ends.EndUse.{EndUse}
 use Rattle.screen_tool.specs.declared.ends.EndUse.TheVariants.{Word, Input, Output, Nothing}
 use Rattle.screen_tool.specs.declared.ends.Inputs.{Inputs}
 use Rattle.screen_tool.specs.declared.ends.Outputs.{Outputs}
-use Rattle.screen_tool.specs.declared.speed.WholeSpeed.{WholeSpeed}
 use Rattle.screen_tool.specs.declared.status.Ending.{Ending}
 use Rattle.screen_tool.specs.declared.status.Ending.TheVariants as ending
 use Rattle.screen_tool.specs.declared.status.Outcome.TheVariants as outcome
@@ -25,12 +23,11 @@ use Rattle.screen_tool.specs.Answers.{Answers, OneOutcome, RestsOnRead}
 use Rattle.screen_tool.specs.Command.{roles_of}
 use Rattle.screen_tool.specs.Ending.{outcome_status, status_of}
 use Rattle.screen_tool.specs.Files.{RulesAreOne, ReadingsAreOne, AfterReadings, rules_too_long, rules_refused, readings_too_long, readings_refused}
-use Rattle.screen_tool.specs.Global.{AnswersGlobal, AnswersRows, ReadingsObey, unchanged, needs_repair, unchanged_cert, unchanged_text}
+use Rattle.screen_tool.specs.Global.{AnswersGlobal, AnswersTable, AnswersBounds, ReadingsKeepAll, unchanged, needs_repair, unchanged_cert_text, unchanged_text}
 use Rattle.screen_tool.specs.Headline.{CountsReadFault, CountsWriteFault, IsApartFromFaults, Headline}
-use Rattle.screen_tool.specs.Narrow.{Reads as ReadsRules}
 use Rattle.screen_tool.specs.Performance.{IsRead, IsAnswered, Stops, LeavesSinks, IsWritten, AreWritten, IsCut, AreCut, Performs, AreTold, IsDue}
 use Rattle.screen_tool.proofs.AfterFile.{after_accepted}
-use Rattle.screen_tool.proofs.AnswerLaws.{global_has}
+use Rattle.screen_tool.proofs.AnswerLaws.{global_has, bounds_answer}
 
 -- ---- what came of a source is the front of what it told
 
@@ -59,7 +56,7 @@ readings_unread (Some Global) bytes answer p none = cc
 readings_unread None bytes answer p none = ap (λ (a : Answer). a.read.readings) p
 
 cert_unread : (command : Option Command) (bytes : Inputs (List ℕ)) (answer : Answer) → Answers command bytes answer → (roles_of command).cert_read ≡ Nothing → answer.read.cert ≡ Unread
-cert_unread (Some Global) bytes answer p none = global_has (λ a. a.read.cert ≡ Unread) bytes answer refl (λ fault. refl) refl (λ fault. refl) (λ found rows. refl) refl p
+cert_unread (Some Global) bytes answer p none = global_has (λ a. a.read.cert ≡ Unread) bytes answer refl (λ fault. refl) refl (λ fault. refl) refl (λ found table. refl) refl p
 cert_unread None bytes answer p none = ap (λ (a : Answer). a.read.cert) p
 
 module _ {S : Type 0} (left : S → Option (List ℕ)) (source_faults : S → ℕ) where
@@ -88,26 +85,30 @@ rules_short : (bytes : List ℕ) (rules : Rules) → ReadsFile bytes (Ok rules) 
 rules_short bytes rules (inl p) = absurd (cc (p.1))
 rules_short bytes rules (inr p) = p.0
 
--- the answer over accepted files is one of those over their rows
-rows_answer : RulesAreOne → ReadingsAreOne → (bytes : Inputs (List ℕ)) (found : WholeSpeed) (rows : List Row) (answer : Answer)
-    → length bytes.rules ≤ longest_rules → ReadsRules bytes.rules (Ok found) → length bytes.readings ≤ longest_readings → ReadsReadings found.sensor bytes.readings (Ok rows)
-    → AnswersGlobal bytes answer → AnswersRows found rows answer
-rows_answer rules readings bytes found rows answer short spells short_readings reads p =
-    after_accepted longest_readings (ReadsReadings found.sensor) readings_too_long readings_refused (readings found.sensor) bytes.readings rows (AnswersRows found) answer short_readings reads
-    (after_accepted longest_rules ReadsRules rules_too_long rules_refused rules bytes.rules found (λ found. AfterReadings found bytes.readings (AnswersRows found)) answer short spells p)
+table_short : (rules : Rules) (bytes : List ℕ) (table : TableView) → ReadsTable rules bytes (Ok table) → length bytes ≤ longest_readings
+table_short rules bytes table (inl p) = absurd (cc (p.1))
+table_short rules bytes table (inr p) = p.0
 
-obeys_done : (found : WholeSpeed) (rows : List Row) (answer : Answer) → answer.outcome ≡ outcome.Done → AnswersRows found rows answer → ReadingsObey found rows × (answer ≡ unchanged found rows)
-obeys_done found rows answer is (inl p) = p
-obeys_done found rows answer is (inr p) = let other : outcome.NeedsRepair ≡ outcome.Done = sym (ap (λ (a : Answer). a.outcome) p.1) ∙ is in absurd (cc other)
+-- the answer over accepted files is one of those over their table
+table_answer : RulesAreOne → ReadingsAreOne → (bytes : Inputs (List ℕ)) (found : Rules) (table : TableView) (answer : Answer)
+    → length bytes.rules ≤ longest_rules → ReadsFile bytes.rules (Ok found) → length bytes.readings ≤ longest_readings → ReadsTable found bytes.readings (Ok table)
+    → AnswersGlobal bytes answer → AnswersTable found table answer
+table_answer rules readings bytes found table answer short spells short_readings reads p =
+    after_accepted longest_readings (ReadsTable found) readings_too_long readings_refused (readings found) bytes.readings table (AnswersTable found) answer short_readings reads
+    (after_accepted longest_rules ReadsFile rules_too_long rules_refused rules bytes.rules found (λ found. AfterReadings found bytes.readings (AnswersTable found)) answer short spells p)
 
-breaks_repair : (found : WholeSpeed) (rows : List Row) (answer : Answer) → answer.outcome ≡ outcome.NeedsRepair → AnswersRows found rows answer → ¬ ReadingsObey found rows
-breaks_repair found rows answer is (inl p) = let other : outcome.Done ≡ outcome.NeedsRepair = sym (ap (λ (a : Answer). a.outcome) p.1) ∙ is in absurd (cc other)
-breaks_repair found rows answer is (inr p) = p.0
+keeps_done : (found : Rules) (table : TableView) (answer : Answer) → answer.outcome ≡ outcome.Done → AnswersBounds found table answer → ReadingsKeepAll found table × (answer ≡ unchanged found table)
+keeps_done found table answer is (inl p) = p
+keeps_done found table answer is (inr p) = let other : outcome.NeedsRepair ≡ outcome.Done = sym (ap (λ (a : Answer). a.outcome) p.1) ∙ is in absurd (cc other)
+
+breaks_repair : (found : Rules) (table : TableView) (answer : Answer) → answer.outcome ≡ outcome.NeedsRepair → AnswersBounds found table answer → ¬ ReadingsKeepAll found table
+breaks_repair found table answer is (inl p) = let other : outcome.Done ≡ outcome.NeedsRepair = sym (ap (λ (a : Answer). a.outcome) p.1) ∙ is in absurd (cc other)
+breaks_repair found table answer is (inr p) = p.0
 
 no_texts : (bytes : Inputs (List ℕ)) (answer : Answer) → AnswersGlobal bytes answer → answer.outcome ≢ outcome.Done → (answer.cert ≡ None) × (answer.out ≡ None)
 no_texts bytes answer p =
     global_has (λ a. a.outcome ≢ outcome.Done → (a.cert ≡ None) × (a.out ≡ None)) bytes answer
-    (λ n. (refl, refl)) (λ fault n. (refl, refl)) (λ n. (refl, refl)) (λ fault n. (refl, refl)) (λ found rows n. absurd (n refl)) (λ n. (refl, refl)) p
+    (λ n. (refl, refl)) (λ fault n. (refl, refl)) (λ n. (refl, refl)) (λ fault n. (refl, refl)) (λ n. (refl, refl)) (λ found table n. absurd (n refl)) (λ n. (refl, refl)) p
 
 -- the sinks of a run of `global` that ends otherwise than with its texts whole
 module _ {K : Type 0} (held : K → Option (List ℕ)) (sink_faults : K → ℕ) where
@@ -172,8 +173,8 @@ module _ {S K : Type 0} (left : S → Option (List ℕ)) (source_faults : S → 
   is_done (ending.Ended outcome.Done) p = refl
   is_done (ending.Ended outcome.Usage) p = cc
   is_done (ending.Ended (outcome.RulesRefused f)) p = cc
-  is_done (ending.Ended outcome.RulesNotBuilt) p = cc
   is_done (ending.Ended (outcome.ReadingsRefused f)) p = cc
+  is_done (ending.Ended outcome.TooManyBounds) p = cc
   is_done (ending.Ended outcome.NeedsRepair) p = cc
   is_done ending.ReadFault p = cc
   is_done ending.WriteFault p = cc
@@ -183,8 +184,8 @@ module _ {S K : Type 0} (left : S → Option (List ℕ)) (source_faults : S → 
   is_repair (ending.Ended outcome.Done) p = cc
   is_repair (ending.Ended outcome.Usage) p = cc
   is_repair (ending.Ended (outcome.RulesRefused f)) p = cc
-  is_repair (ending.Ended outcome.RulesNotBuilt) p = cc
   is_repair (ending.Ended (outcome.ReadingsRefused f)) p = cc
+  is_repair (ending.Ended outcome.TooManyBounds) p = cc
   is_repair (ending.Ended outcome.NeedsRepair) p = refl
   is_repair ending.ReadFault p = cc
   is_repair ending.WriteFault p = cc
@@ -193,26 +194,27 @@ module _ {S K : Type 0} (left : S → Option (List ℕ)) (source_faults : S → 
   pub headline : RulesAreOne → ReadingsAreOne → OneOutcome → RestsOnRead → (ins now : Inputs S) (outs outs_now : Outputs K) (how : Ending)
       → Performs left source_faults held sink_faults AnswersGlobal ins now outs outs_now how
       → Headline left source_faults held sink_faults ins now outs outs_now (status_of how)
-  headline rules readings one rest ins now outs outs_now how p = λ rule_bytes reading_bytes found rows rules_told readings_told spells reads.
+  headline rules readings one rest ins now outs outs_now how p = λ rule_bytes reading_bytes found table rules_told readings_told spells reads few.
       let bytes : Inputs (List ℕ) = record { rules = rule_bytes; readings = reading_bytes; cert = [] } in
       let told : AreTold left (roles_of (Some Global)) ins bytes = record { rules = λ _. rules_told; readings = λ _. readings_told; cert = λ used. absurd (used refl) } in
-      let short : length rule_bytes ≤ longest_rules = rules_short rule_bytes spells.0 spells.1 in
-      let given : (answer : Answer) → AnswersRows found rows answer → AnswersGlobal bytes answer =
-      λ answer q. inr (short, Ok found, spells, inr (reads.short, Ok rows, reads, q)) in
-      let own : (answer : Answer) → IsAnswered left source_faults AnswersGlobal ins now answer → AnswersRows found rows answer =
-      λ answer q. rows_answer rules readings bytes found rows answer short spells reads.short reads (answered_told left source_faults rest (Some Global) ins now bytes answer told q) in
+      let short : length rule_bytes ≤ longest_rules = rules_short rule_bytes found spells in
+      let short_readings : length reading_bytes ≤ longest_readings = table_short found reading_bytes table reads in
+      let given : (answer : Answer) → AnswersBounds found table answer → AnswersGlobal bytes answer =
+      λ answer q. inr (short, Ok found, spells, inr (short_readings, Ok table, reads, inr (few, q))) in
+      let own : (answer : Answer) → IsAnswered left source_faults AnswersGlobal ins now answer → AnswersBounds found table answer =
+      λ answer q. bounds_answer found table answer few (table_answer rules readings bytes found table answer short spells short_readings reads (answered_told left source_faults rest (Some Global) ins now bytes answer told q)) in
       let at_done : status_of how ≡ status.Done → Performs left source_faults held sink_faults AnswersGlobal ins now outs outs_now (ending.Ended outcome.Done) =
       λ is. subst (λ e. Performs left source_faults held sink_faults AnswersGlobal ins now outs outs_now e) (is_done how is) p in
       let at_repair : status_of how ≡ status.NeedsRepair → Performs left source_faults held sink_faults AnswersGlobal ins now outs outs_now (ending.Ended outcome.NeedsRepair) =
       λ is. subst (λ e. Performs left source_faults held sink_faults AnswersGlobal ins now outs outs_now e) (is_repair how is) p in
       record {
-        obeys = λ o. apart one rest ins now outs outs_now bytes (unchanged found rows) how told rules_told readings_told (given (unchanged found rows) (inl (o, refl))) refl p;
+        keeps = λ k. apart one rest ins now outs outs_now bytes (unchanged found table) how told rules_told readings_told (given (unchanged found table) (inl (k, refl))) refl p;
         breaks = λ b. apart one rest ins now outs outs_now bytes needs_repair how told rules_told readings_told (given needs_repair (inr (b, refl))) refl p;
-        done = λ is. let q = at_done is in (obeys_done found rows q.0 q.1 (own q.0 q.2)).0;
-        needs = λ is. let q = at_repair is in breaks_repair found rows q.0 q.1 (own q.0 q.2);
+        done = λ is. let q = at_done is in (keeps_done found table q.0 q.1 (own q.0 q.2)).0;
+        needs = λ is. let q = at_repair is in breaks_repair found table q.0 q.1 (own q.0 q.2);
         cert = λ is. let q = at_done is in
-            gained held sink_faults q.0.cert unchanged_cert outs.cert outs_now.cert (ap (λ (a : Answer). a.cert) (obeys_done found rows q.0 q.1 (own q.0 q.2)).1) q.3.0;
+            gained held sink_faults q.0.cert (unchanged_cert_text found) outs.cert outs_now.cert (ap (λ (a : Answer). a.cert) (keeps_done found table q.0 q.1 (own q.0 q.2)).1) q.3.0;
         out = λ is. let q = at_done is in
-            gained held sink_faults q.0.out (unchanged_text found rows) outs.out outs_now.out (ap (λ (a : Answer). a.out) (obeys_done found rows q.0 q.1 (own q.0 q.2)).1) q.3.1;
+            gained held sink_faults q.0.out (unchanged_text found table) outs.out outs_now.out (ap (λ (a : Answer). a.out) (keeps_done found table q.0 q.1 (own q.0 q.2)).1) q.3.1;
         kept = λ not_done not_cut. kept ins now outs outs_now how p not_done not_cut;
       }

@@ -1,9 +1,6 @@
-pub mod WholeNumbers
-pub mod BoundLaws
-pub mod Pairs
-pub mod Rising
 pub mod AfterFile
 pub mod AnswerLaws
-pub mod NarrowOne
+pub mod Kept
+pub mod Priced
 pub mod Steps
 pub mod Due

@@ -1,21 +1,28 @@
 -- From the steps of a command to what it performs.
-use Rattle.std.proofs.Common.{◌≡◌, inl, inr, ℕ, ◌≤◌, ◌↔◌, Bool, true, false, IsTrue, List, [], length, Option, None, Result, Ok, Err, OnOk, OnErr, refl, sym, subst, ◌∙◌}
+use Rattle.std.proofs.Common.{◌≡◌, ◌≢◌, inl, inr, ℕ, ◌≤◌, ◌<◌, ◌↔◌, Bool, true, false, IsTrue, List, [], length, Option, None, Result, Ok, Err, OnOk, OnErr, MatchResult, refl, sym, subst, ◌∙◌}
+use Rattle.std.specs.List.{AllByRecursion}
 use Rattle.std.proofs.lemmas.Bool.{false≢true}
+use Rattle.bound_maker.specs.declared.maker.MakeFault.{MakeFault}
+use Rattle.bound_maker.specs.declared.maker.MakeFault.TheVariants as bounds
+use Rattle.bound_maker.specs.declared.maker.TheConstants.{MOST_BOUNDS}
+use Rattle.bound_maker.specs.Bounds.{made_bounds}
+use Rattle.rule_file.specs.File.{ReadsFile}
+use Rattle.rule_file.specs.declared.fault.RuleFault.{RuleFault}
 use Rattle.screen_io.specs.Faults.{Rose, HasCause}
 use Rattle.screen_io.specs.Sink.{Gains, GainsPrefix}
 use Rattle.screen_io.specs.declared.source.Failed.{Failed}
 use Rattle.rule_file.specs.declared.read.TheConstants.{LONGEST as longest_rules}
-use Rattle.narrow_csv.specs.declared.fault.TableFault.{TableFault}
-use Rattle.narrow_csv.specs.declared.table.Row.{Row}
-use Rattle.narrow_csv.specs.declared.read.TheConstants.{LONGEST as longest_readings}
-use Rattle.narrow_csv.specs.ReadingsFile.{Reads as ReadsReadings}
-use Rattle.narrow_csv.specs.Rows.{places, values}
-use Rattle.screen_model.specs.Obeys.{Obeys, without_prices}
-use Rattle.screen_tool.specs.declared.narrow.RulesFault.{RulesFault}
+use Rattle.rule_file.specs.declared.rules.Rules.{Rules}
+use Rattle.screen_model.specs.declared.bound.Bound.{Bound}
+use Rattle.screen_model.specs.Obeys.{Keeps}
+use Rattle.series_csv.specs.File.{TableView, ReadsTable}
+use Rattle.series_csv.specs.Readings.{places, values}
+use Rattle.series_csv.specs.declared.table.TheConstants.{LONGEST as longest_readings}
+use Rattle.series_rows.specs.declared.fault.TableFault.{TableFault}
 use Rattle.screen_tool.specs.declared.command.Command.{Command}
 use Rattle.screen_tool.specs.declared.ends.Inputs.{Inputs}
 use Rattle.screen_tool.specs.declared.ends.Outputs.{Outputs}
-use Rattle.screen_tool.specs.declared.speed.WholeSpeed.{WholeSpeed}
+use Rattle.screen_tool.specs.declared.reply.Reply.{Reply}
 use Rattle.screen_tool.specs.declared.status.Ending.{Ending}
 use Rattle.screen_tool.specs.declared.status.Ending.TheVariants as ending
 use Rattle.screen_tool.specs.declared.status.Outcome.TheVariants.{Usage}
@@ -23,13 +30,11 @@ use Rattle.screen_tool.specs.declared.step.StepFault.{StepFault}
 use Rattle.screen_tool.specs.declared.step.StepFault.TheVariants as fault
 use Rattle.screen_tool.specs.Answer.{Extent, Whole, Unread, Answer}
 use Rattle.screen_tool.specs.Answers.{Answers, usage}
-use Rattle.screen_tool.specs.Bounds.{bounds}
-use Rattle.screen_tool.specs.Files.{RulesAreOne, rules_too_long, rules_refused, readings_too_long, readings_refused}
-use Rattle.screen_tool.specs.Global.{AnswersGlobal, AnswersRows, ReadingsObey}
-use Rattle.screen_tool.specs.Narrow.{Reads as ReadsRules}
+use Rattle.screen_tool.specs.Files.{RulesAreOne, rules_too_long, rules_refused, readings_too_long, readings_refused, too_many_bounds}
+use Rattle.screen_tool.specs.Global.{AnswersGlobal, AnswersTable, ReadingsKeepAll, unchanged, needs_repair}
 use Rattle.screen_tool.specs.Performance.{IsAnswerTo, IsRead, AreRead, IsAnswered, Stays, Stops, LeavesSinks, IsWritten, IsNoted, Performs}
-use Rattle.screen_tool.specs.Step.{IsFound, IsStopped, IsStep, WasRead, Ends, rules_ending, readings_ending}
-use Rattle.screen_tool.proofs.AnswerLaws.{needs_rules, needs_readings}
+use Rattle.screen_tool.specs.Step.{Comes, IsFound, IsStopped, IsStep, WasRead, Ends, Replies, rules_ending, readings_ending, bounds_ending}
+use Rattle.screen_tool.proofs.AnswerLaws.{needs_rules, needs_readings, reads_both}
 
 -- ---- a file that was read, and what was found in it
 
@@ -56,7 +61,7 @@ module _ {S : Type 0} (left : S → Option (List ℕ)) (source_faults : S → �
       → Stops left source_faults Happens AnswersGlobal ins (record ins { rules = rules })
   at_rules Happens ins rules p = inl (record { came = p.0; needed = needs_rules; taken = p.1; happens = p.2; readings = refl; cert = refl })
 
-  pub rules_end : (ins : Inputs S) (rules : S) (given : StepFault RulesFault) → IsStep left source_faults longest_rules ReadsRules ins.rules rules (Err given)
+  pub rules_end : (ins : Inputs S) (rules : S) (given : StepFault RuleFault) → IsStep left source_faults longest_rules ReadsFile ins.rules rules (Err given)
       → Ends left source_faults AnswersGlobal ins (record ins { rules = rules }) (rules_ending given)
   rules_end ins rules fault.TooLong p = (
     rules_too_long,
@@ -75,15 +80,15 @@ module _ {S : Type 0} (left : S → Option (List ℕ)) (source_faults : S → �
   rules_end ins rules fault.Failed p = at_rules Rose ins rules p
   rules_end ins rules fault.Memory p = inr (at_rules Stays ins rules p)
 
-  at_readings : (Happens : ℕ → ℕ → Type 0) → RulesAreOne → (ins : Inputs S) (rules readings : S) (found : WholeSpeed)
-      → IsStep left source_faults longest_rules ReadsRules ins.rules rules (Ok found) → IsStopped left source_faults Happens ins.readings readings
+  at_readings : (Happens : ℕ → ℕ → Type 0) → RulesAreOne → (ins : Inputs S) (rules readings : S) (found : Rules)
+      → IsStep left source_faults longest_rules ReadsFile ins.rules rules (Ok found) → IsStopped left source_faults Happens ins.readings readings
       → Stops left source_faults Happens AnswersGlobal ins (record ins { rules = rules; readings = readings })
   at_readings Happens law ins rules readings found q p =
       inr (inl (record { rules_came = q.0; came = p.0; rules = q.1; needed = needs_readings law q.0 found q.2 q.3; taken = p.1; happens = p.2; cert = refl }))
 
-  pub readings_end : RulesAreOne → (ins : Inputs S) (rules readings : S) (found : WholeSpeed) (given : StepFault TableFault)
-      → IsStep left source_faults longest_rules ReadsRules ins.rules rules (Ok found)
-      → IsStep left source_faults longest_readings (ReadsReadings found.sensor) ins.readings readings (Err given)
+  pub readings_end : RulesAreOne → (ins : Inputs S) (rules readings : S) (found : Rules) (given : StepFault TableFault)
+      → IsStep left source_faults longest_rules ReadsFile ins.rules rules (Ok found)
+      → IsStep left source_faults longest_readings (ReadsTable found) ins.readings readings (Err given)
       → Ends left source_faults AnswersGlobal ins (record ins { rules = rules; readings = readings }) (readings_ending given)
   readings_end law ins rules readings found fault.TooLong q p = (
     readings_too_long,
@@ -103,11 +108,11 @@ module _ {S : Type 0} (left : S → Option (List ℕ)) (source_faults : S → �
   readings_end law ins rules readings found fault.Memory q p = inr (at_readings Stays law ins rules readings found q p)
 
   -- memory runs out once both files are accepted
-  pub texts_end : RulesAreOne → (ins : Inputs S) (rules readings : S) (found : WholeSpeed) (rows : List Row)
-      → IsStep left source_faults longest_rules ReadsRules ins.rules rules (Ok found)
-      → IsStep left source_faults longest_readings (ReadsReadings found.sensor) ins.readings readings (Ok rows)
+  pub texts_end : RulesAreOne → (ins : Inputs S) (rules readings : S) (found : Rules) (table : TableView)
+      → IsStep left source_faults longest_rules ReadsFile ins.rules rules (Ok found)
+      → IsStep left source_faults longest_readings (ReadsTable found) ins.readings readings (Ok table)
       → Ends left source_faults AnswersGlobal ins (record ins { rules = rules; readings = readings }) ending.Memory
-  texts_end law ins rules readings found rows q p = inr (at_readings Stays law ins rules readings found q (p.0, p.1.0, p.1.2))
+  texts_end law ins rules readings found table q p = inr (at_readings Stays law ins rules readings found q (p.0, p.1.0, p.1.2))
 
   pub usage_ends : (command : Option Command) (ins : Inputs S) → command ≡ None → Ends left source_faults (Answers command) ins ins (ending.Ended Usage)
   usage_ends command ins none = (
@@ -119,18 +124,34 @@ module _ {S : Type 0} (left : S → Option (List ℕ)) (source_faults : S → �
   )
 
   -- both files are accepted
-  pub rows_answered : (ins : Inputs S) (rules readings : S) (found : WholeSpeed) (rows : List Row) (answer : Answer)
-      → IsStep left source_faults longest_rules ReadsRules ins.rules rules (Ok found)
-      → IsStep left source_faults longest_readings (ReadsReadings found.sensor) ins.readings readings (Ok rows)
-      → answer.read ≡ record { rules = Whole; readings = Whole; cert = Unread } → AnswersRows found rows answer
+  pub table_answered : (ins : Inputs S) (rules readings : S) (found : Rules) (table : TableView) (answer : Answer)
+      → IsStep left source_faults longest_rules ReadsFile ins.rules rules (Ok found)
+      → IsStep left source_faults longest_readings (ReadsTable found) ins.readings readings (Ok table)
+      → answer.read ≡ record { rules = Whole; readings = Whole; cert = Unread } → AnswersTable found table answer
       → IsAnswered left source_faults AnswersGlobal ins (record ins { rules = rules; readings = readings }) answer
-  rows_answered ins rules readings found rows answer q p extents given = (
+  table_answered ins rules readings found table answer q p extents given = (
     record { rules = q.0; readings = p.0; cert = [] },
-    inr (q.2, Ok found, q.3, inr (p.2, Ok rows, p.3, given)),
+    inr (q.2, Ok found, q.3, inr (p.2, Ok table, p.3, given)),
     subst
         (λ (read : Inputs Extent). AreRead left source_faults read ins (record ins { rules = rules; readings = readings }) (record { rules = q.0; readings = p.0; cert = [] }))
         (sym extents) (q.1, p.1, refl),
   )
+
+  -- what comes of accepted files is what the command replies, or how it ends
+  pub table_comes : RulesAreOne → (ins : Inputs S) (rules readings : S) (found : Rules) (table : TableView) (given : Result Reply Ending)
+      → IsStep left source_faults longest_rules ReadsFile ins.rules rules (Ok found)
+      → IsStep left source_faults longest_readings (ReadsTable found) ins.readings readings (Ok table)
+      → Comes (AnswersTable found table) given
+      → MatchResult given
+      (Replies left source_faults AnswersGlobal ins (record ins { rules = rules; readings = readings }))
+      (Ends left source_faults AnswersGlobal ins (record ins { rules = rules; readings = readings }))
+  table_comes law ins rules readings found table (Ok reply) q p c =
+      (c.0, c.1, table_answered ins rules readings found table c.0 q p (reads_both found table c.0 c.2) c.2)
+  table_comes law ins rules readings found table (Err (ending.Ended outcome)) q p c =
+      (c.0, c.1, c.2, c.3, table_answered ins rules readings found table c.0 q p (reads_both found table c.0 c.4) c.4)
+  table_comes law ins rules readings found table (Err ending.ReadFault) q p c = absurd c
+  table_comes law ins rules readings found table (Err ending.WriteFault) q p c = absurd c
+  table_comes law ins rules readings found table (Err ending.Memory) q p c = texts_end law ins rules readings found table q p
 
 -- ---- what is written
 
@@ -163,14 +184,49 @@ module _ {K : Type 0} (held : K → Option (List ℕ)) (sink_faults : K → ℕ)
   noted note seen sink now (Ok x) same whole part cause unfailed = inl (subst (λ (t : List ℕ). Gains (held sink) t (held now)) same whole, unfailed)
   noted note seen sink now (Err e) same whole part cause unfailed = inr (subst (λ (t : List ℕ). GainsPrefix (held sink) t (held now)) same part, cause.failed)
 
--- ---- the test of the bounds, over the rows as it saw them
+-- ---- words that are no command are answered before
 
-abbrev pub Tests : WholeSpeed → List Row → Bool → Type 0
-Tests found rows test = IsTrue test ↔ Obeys (places rows) (values rows) (without_prices (bounds found rows))
+pub err_one : {A E : Type 0} {one other : E} → ◌≡◌ {A = Result A E} (Err one) (Err other) → one ≡ other
+err_one e = cc
 
-pub obeys_from_test : (found : WholeSpeed) (rows seen : List Row) (test : Bool) → seen ≡ rows → Tests found seen test → test ≡ true → ReadingsObey found rows
-obeys_from_test found rows seen test same tests passes = subst (λ (r : List Row). ReadingsObey found r) same (tests.0 passes)
+pub rules_no_usage : (given : StepFault RuleFault) → rules_ending given ≢ ending.Ended Usage
+rules_no_usage fault.TooLong e = cc
+rules_no_usage (fault.Refused f) e = cc
+rules_no_usage fault.Failed e = cc
+rules_no_usage fault.Memory e = cc
 
-pub disobeys_from_test : (found : WholeSpeed) (rows seen : List Row) (test : Bool) → seen ≡ rows → Tests found seen test → test ≡ false → ¬ ReadingsObey found rows
-disobeys_from_test found rows seen test same tests fails =
-    λ obeys. absurd (false≢true (sym fails ∙ tests.1 (subst (λ (r : List Row). ReadingsObey found r) (sym same) obeys)))
+pub readings_no_usage : (given : StepFault TableFault) → readings_ending given ≢ ending.Ended Usage
+readings_no_usage fault.TooLong e = cc
+readings_no_usage (fault.Refused f) e = cc
+readings_no_usage fault.Failed e = cc
+readings_no_usage fault.Memory e = cc
+
+pub bounds_no_usage : (given : MakeFault) → bounds_ending given ≢ ending.Ended Usage
+bounds_no_usage bounds.TooManyBounds e = cc
+bounds_no_usage bounds.Memory e = cc
+
+-- ---- the bounds that were made
+
+-- they are refused, or memory ran out as they were made
+pub bounds_come : (found : Rules) (table : TableView) (given : MakeFault) → (given ≢ bounds.Memory → MOST_BOUNDS < length (made_bounds found table))
+    → Comes (AnswersTable found table) (Err (bounds_ending given))
+bounds_come found table bounds.TooManyBounds many = (too_many_bounds, refl, refl, refl, inl (many (λ e. cc), refl))
+bounds_come found table bounds.Memory many = tt
+
+abbrev Tests : Rules → TableView → List Bound → Bool → Type 0
+Tests found table made test = IsTrue test ↔ AllByRecursion (Keeps (places table) (values table)) made
+
+-- the test of the bounds tells what is answered
+pub break_comes : (found : Rules) (table : TableView) (made : List Bound) (test : Bool) → made ≡ made_bounds found table → length made ≤ MOST_BOUNDS
+    → Tests found table made test → test ≡ false → AnswersTable found table needs_repair
+break_comes found table made test same few tests fails =
+    let breaks : ¬ ReadingsKeepAll found table =
+    λ kept. absurd (false≢true (sym fails ∙ tests.1 (subst (λ (b : List Bound). AllByRecursion (Keeps (places table) (values table)) b) (sym same) kept)))
+    in
+    inr (subst (λ (b : List Bound). length b ≤ MOST_BOUNDS) same few, inr (breaks, refl))
+
+pub keep_comes : (found : Rules) (table : TableView) (made : List Bound) (test : Bool) → made ≡ made_bounds found table → length made ≤ MOST_BOUNDS
+    → Tests found table made test → test ≡ true → AnswersTable found table (unchanged found table)
+keep_comes found table made test same few tests passes =
+    let keeps : ReadingsKeepAll found table = subst (λ (b : List Bound). AllByRecursion (Keeps (places table) (values table)) b) same (tests.0 passes) in
+    inr (subst (λ (b : List Bound). length b ≤ MOST_BOUNDS) same few, inl (keeps, refl))

@@ -3,7 +3,7 @@ use Rattle.std.specs.Prelude.{◌≡◌, ◌⊎◌, ℕ}
 use Rattle.screen_tool.specs.declared.status.Status.{Status}
 use Rattle.screen_tool.specs.declared.status.Status.TheVariants as status
 use Rattle.screen_tool.specs.declared.status.Outcome.{Outcome}
-use Rattle.screen_tool.specs.declared.status.Outcome.TheVariants.{Done, Usage, RulesRefused, RulesNotBuilt, ReadingsRefused, NeedsRepair}
+use Rattle.screen_tool.specs.declared.status.Outcome.TheVariants.{Done, Usage, RulesRefused, ReadingsRefused, TooManyBounds, NeedsRepair}
 use Rattle.screen_tool.specs.declared.status.Ending.{Ending}
 use Rattle.screen_tool.specs.declared.status.Ending.TheVariants.{Ended, ReadFault, WriteFault, Memory}
 
@@ -21,8 +21,8 @@ abbrev pub outcome_status : Outcome → Status
 outcome_status Done = status.Done
 outcome_status Usage = status.Usage
 outcome_status (RulesRefused fault) = status.RulesRefused
-outcome_status RulesNotBuilt = status.RulesRefused
 outcome_status (ReadingsRefused fault) = status.ReadingsRefused
+outcome_status TooManyBounds = status.ReadingsRefused
 outcome_status NeedsRepair = status.NeedsRepair
 
 abbrev pub status_of : Ending → Status

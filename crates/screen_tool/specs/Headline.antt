@@ -1,16 +1,16 @@
 -- To be believed: what the program is for, as far as it is built, in one piece.
-use Rattle.std.specs.Prelude.{◌≡◌, ◌≢◌, ◌⊎◌, ℕ, List, Option, Some, Ok}
-use Rattle.narrow_csv.specs.declared.table.Row.{Row}
-use Rattle.narrow_csv.specs.ReadingsFile.{Reads as ReadsReadings}
+use Rattle.std.specs.Prelude.{◌≡◌, ◌≢◌, ◌⊎◌, ℕ, List, Option, Some}
+use Rattle.rule_file.specs.File.{Spells as SpellsRules}
+use Rattle.rule_file.specs.declared.rules.Rules.{Rules}
+use Rattle.series_csv.specs.File.{TableView, Spells as SpellsTable}
 use Rattle.screen_io.specs.Faults.{Rose}
 use Rattle.screen_io.specs.Sink.{Gains}
 use Rattle.screen_tool.specs.declared.ends.Inputs.{Inputs}
 use Rattle.screen_tool.specs.declared.ends.Outputs.{Outputs}
-use Rattle.screen_tool.specs.declared.speed.WholeSpeed.{WholeSpeed}
 use Rattle.screen_tool.specs.declared.status.Status.{Status}
 use Rattle.screen_tool.specs.declared.status.Status.TheVariants.{Done, ReadFault, WriteFault, Memory, NeedsRepair}
-use Rattle.screen_tool.specs.Global.{ReadingsObey, unchanged_cert, unchanged_text}
-use Rattle.screen_tool.specs.Narrow.{Reads as ReadsRules}
+use Rattle.screen_tool.specs.Files.{HasFewBounds}
+use Rattle.screen_tool.specs.Global.{ReadingsKeepAll, unchanged_cert_text, unchanged_text}
 
 module _ {S K : Type 0} (left : S → Option (List ℕ)) (source_faults : S → ℕ) (held : K → Option (List ℕ)) (sink_faults : K → ℕ) where
   -- a source that the command reads counted a fault
@@ -28,22 +28,23 @@ module _ {S K : Type 0} (left : S → Option (List ℕ)) (source_faults : S → 
       (given ≡ due)
       ⊎ (((given ≡ ReadFault) × CountsReadFault ins ins_now) ⊎ (((given ≡ WriteFault) × CountsWriteFault outs outs_now) ⊎ (given ≡ Memory)))
 
-  -- Apart from these, 0 is answered exactly where the readings obey every bound, and then the certificate and the
-  -- unchanged readings are written; 9 exactly where they do not; and with every status but 0 and 6 both sinks are the
-  -- same as before.
-  pub record Separates (found : WholeSpeed) (rows : List Row) (ins ins_now : Inputs S) (outs outs_now : Outputs K) (given : Status) : Type 0 where
-    pub obeys : ReadingsObey found rows → IsApartFromFaults ins ins_now outs outs_now Done given
-    pub breaks : (¬ ReadingsObey found rows) → IsApartFromFaults ins ins_now outs outs_now NeedsRepair given
-    pub done : given ≡ Done → ReadingsObey found rows
-    pub needs : given ≡ NeedsRepair → ¬ ReadingsObey found rows
-    pub cert : given ≡ Done → Gains (held outs.cert) unchanged_cert (held outs_now.cert)
-    pub out : given ≡ Done → Gains (held outs.out) (unchanged_text found rows) (held outs_now.out)
+  -- Apart from these, 0 is answered exactly where the readings keep every bound that is made, and then the certificate
+  -- and the readings with their own values are written; 9 exactly where they do not; and with every status but 0 and 6
+  -- both sinks are the same as before.
+  pub record Separates (rules : Rules) (table : TableView) (ins ins_now : Inputs S) (outs outs_now : Outputs K) (given : Status) : Type 0 where
+    pub keeps : ReadingsKeepAll rules table → IsApartFromFaults ins ins_now outs outs_now Done given
+    pub breaks : (¬ ReadingsKeepAll rules table) → IsApartFromFaults ins ins_now outs outs_now NeedsRepair given
+    pub done : given ≡ Done → ReadingsKeepAll rules table
+    pub needs : given ≡ NeedsRepair → ¬ ReadingsKeepAll rules table
+    pub cert : given ≡ Done → Gains (held outs.cert) (unchanged_cert_text rules) (held outs_now.cert)
+    pub out : given ≡ Done → Gains (held outs.out) (unchanged_text rules table) (held outs_now.out)
     pub kept : given ≢ Done → given ≢ WriteFault → (outs_now.cert ≡ outs.cert) × (outs_now.out ≡ outs.out)
 
-  -- So it is over every rule file and every readings file that are accepted.
+  -- So it is over every rule file and every readings file that are accepted, and of which no more than 4,000,000 bounds
+  -- are made.
   abbrev pub Headline : Inputs S → Inputs S → Outputs K → Outputs K → Status → Type 0
   Headline ins ins_now outs outs_now given =
-      (rule_bytes reading_bytes : List ℕ) (found : WholeSpeed) (rows : List Row)
+      (rule_bytes reading_bytes : List ℕ) (rules : Rules) (table : TableView)
       → left ins.rules ≡ Some rule_bytes → left ins.readings ≡ Some reading_bytes
-      → ReadsRules rule_bytes (Ok found) → ReadsReadings found.sensor reading_bytes (Ok rows)
-      → Separates found rows ins ins_now outs outs_now given
+      → SpellsRules rule_bytes rules → SpellsTable rules reading_bytes table → HasFewBounds rules table
+      → Separates rules table ins ins_now outs outs_now given

@@ -1,14 +1,10 @@
 pub mod Answer
 pub mod Answers
-pub mod Bounds
-pub mod Changes
 pub mod Command
 pub mod Ending
 pub mod Files
 pub mod Global
 pub mod Headline
-pub mod Limits
-pub mod Narrow
 pub mod Note
 pub mod Performance
 pub mod RealEnds

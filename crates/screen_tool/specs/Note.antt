@@ -2,12 +2,18 @@
 use Rattle.std.specs.Prelude.{ℕ, List, [], ◌++◌, codes, decimal}
 use Rattle.rule_file.specs.declared.fault.RuleCause.{RuleCause}
 use Rattle.rule_file.specs.declared.fault.RuleCause.TheVariants as rules
-use Rattle.narrow_csv.specs.declared.fault.TableCause.{TableCause}
-use Rattle.narrow_csv.specs.declared.fault.TableCause.TheVariants as readings
+use Rattle.fix_point.specs.declared.scale.NumFault.{NumFault}
+use Rattle.fix_point.specs.declared.scale.NumFault.TheVariants as number
+use Rattle.time_text.specs.declared.form.TimeFault.{TimeFault}
+use Rattle.time_text.specs.declared.form.TimeFault.TheVariants as time
+use Rattle.record_cut.specs.declared.fault.CutFault.{CutFault}
+use Rattle.record_cut.specs.declared.fault.CutFault.TheVariants as cut
+use Rattle.series_rows.specs.declared.fault.TableCause.{TableCause}
+use Rattle.series_rows.specs.declared.fault.TableCause.TheVariants as readings
 use Rattle.screen_tool.specs.declared.status.Ending.{Ending}
 use Rattle.screen_tool.specs.declared.status.Ending.TheVariants.{Ended, ReadFault, WriteFault, Memory}
 use Rattle.screen_tool.specs.declared.status.Outcome.{Outcome}
-use Rattle.screen_tool.specs.declared.status.Outcome.TheVariants.{Done, Usage, RulesRefused, RulesNotBuilt, ReadingsRefused, NeedsRepair}
+use Rattle.screen_tool.specs.declared.status.Outcome.TheVariants.{Done, Usage, RulesRefused, ReadingsRefused, TooManyBounds, NeedsRepair}
 
 abbrev pub rule_cause_name : RuleCause → List ℕ
 rule_cause_name rules.Syntax = codes "Syntax"
@@ -23,22 +29,53 @@ rule_cause_name rules.SameSensor = codes "SameSensor"
 rule_cause_name rules.FileTooLong = codes "FileTooLong"
 rule_cause_name rules.Memory = codes "Memory"
 
+abbrev pub time_fault_name : TimeFault → List ℕ
+time_fault_name time.NotTime = codes "NotTime"
+time_fault_name time.TimeTooFine = codes "TimeTooFine"
+time_fault_name time.TimeOutOfRange = codes "TimeOutOfRange"
+time_fault_name time.Memory = codes "Memory"
+
+abbrev pub number_fault_name : NumFault → List ℕ
+number_fault_name number.NotNumber = codes "NotNumber"
+number_fault_name number.TooFine = codes "TooFine"
+number_fault_name number.OutOfRange = codes "OutOfRange"
+
+abbrev pub cut_fault_name : CutFault → List ℕ
+cut_fault_name cut.BadQuote = codes "BadQuote"
+cut_fault_name cut.RecordTooLong = codes "RecordTooLong"
+cut_fault_name cut.OpenQuote = codes "OpenQuote"
+cut_fault_name cut.Memory = codes "Memory"
+
+-- the name of the cause, or of what is wrong with a time, a value or a record
 abbrev pub table_cause_name : TableCause → List ℕ
-table_cause_name readings.NotBuilt = codes "NotBuilt"
+table_cause_name readings.NoHeader = codes "NoHeader"
+table_cause_name readings.TooManyColumns = codes "TooManyColumns"
+table_cause_name readings.NameTwice = codes "NameTwice"
+table_cause_name (readings.NoSuchSensor rule) = codes "NoSuchSensor"
+table_cause_name readings.Width = codes "Width"
+table_cause_name (readings.Time fault) = time_fault_name fault
+table_cause_name readings.TimeNotRising = codes "TimeNotRising"
+table_cause_name (readings.Value fault) = number_fault_name fault
+table_cause_name readings.TooManyRows = codes "TooManyRows"
+table_cause_name readings.TooManyReadings = codes "TooManyReadings"
+table_cause_name (readings.Cut fault) = cut_fault_name fault
 table_cause_name readings.FileTooLong = codes "FileTooLong"
 table_cause_name readings.Memory = codes "Memory"
 
 abbrev pub usage_text : List ℕ
 usage_text = codes "usage: screen global RULES READINGS CERT\n"
 
+-- why the readings are refused, with the row and the column
+abbrev pub readings_text : List ℕ → ℕ → ℕ → List ℕ
+readings_text name row col = codes "screen: readings refused: " ++ name ++ codes ", row " ++ decimal row ++ codes ", column " ++ decimal col ++ codes "\n"
+
 -- one line, and none where all is well
 abbrev pub outcome_text : Outcome → List ℕ
 outcome_text Done = []
 outcome_text Usage = usage_text
 outcome_text (RulesRefused fault) = codes "screen: rules refused: " ++ rule_cause_name fault.cause ++ codes ", rule " ++ decimal fault.rule ++ codes "\n"
-outcome_text RulesNotBuilt = codes "screen: rules refused: NotBuilt, rule 0\n"
-outcome_text (ReadingsRefused fault) =
-    codes "screen: readings refused: " ++ table_cause_name fault.cause ++ codes ", row " ++ decimal fault.row ++ codes ", column " ++ decimal fault.col ++ codes "\n"
+outcome_text (ReadingsRefused fault) = readings_text (table_cause_name fault.cause) fault.row fault.col
+outcome_text TooManyBounds = readings_text (codes "TooManyBounds") 0 0
 outcome_text NeedsRepair = codes "screen: the readings need repair\n"
 
 abbrev pub note_text : Ending → List ℕ

@@ -2,22 +2,23 @@
 use Rattle.std.specs.Prelude.{◌≡◌, ℕ, ◌+◌, ◌<◌, ◌≤◌, List, length, Option, None, option_map, Result, Ok, Err, Vec}
 use Rattle.std.specs.declared.alloc.Global.{Global as Heap}
 use Rattle.rule_file.specs.Fault.{of_the_file as of_the_rules}
-use Rattle.narrow_csv.specs.Fault.{of_the_file as of_the_readings}
+use Rattle.bound_maker.specs.declared.maker.MakeFault.{MakeFault}
+use Rattle.bound_maker.specs.declared.maker.MakeFault.TheVariants as bounds
 use Rattle.rule_file.specs.declared.fault.RuleCause.TheVariants as rules
-use Rattle.narrow_csv.specs.declared.fault.TableFault.{TableFault}
-use Rattle.narrow_csv.specs.declared.fault.TableCause.TheVariants as readings
+use Rattle.rule_file.specs.declared.fault.RuleFault.{RuleFault}
+use Rattle.series_rows.specs.Faults.{of_the_file as of_the_readings}
+use Rattle.series_rows.specs.declared.fault.TableFault.{TableFault}
+use Rattle.series_rows.specs.declared.fault.TableCause.TheVariants as readings
 use Rattle.screen_io.specs.Faults.{Rose}
 use Rattle.screen_io.specs.Source.{Takes}
 use Rattle.screen_tool.specs.declared.ends.Inputs.{Inputs}
-use Rattle.screen_tool.specs.declared.narrow.RulesFault.{RulesFault}
 use Rattle.screen_tool.specs.declared.reply.Reply.{Reply}
 use Rattle.screen_tool.specs.declared.status.Ending.{Ending}
 use Rattle.screen_tool.specs.declared.status.Ending.TheVariants as ending
-use Rattle.screen_tool.specs.declared.status.Outcome.TheVariants.{RulesRefused, ReadingsRefused}
+use Rattle.screen_tool.specs.declared.status.Outcome.TheVariants.{RulesRefused, ReadingsRefused, TooManyBounds}
 use Rattle.screen_tool.specs.declared.step.StepFault.{StepFault}
 use Rattle.screen_tool.specs.declared.step.StepFault.TheVariants.{TooLong, Refused, Failed, Memory}
 use Rattle.screen_tool.specs.Answer.{Whole, Begun, Answer}
-use Rattle.screen_tool.specs.Files.{refused_rules}
 use Rattle.screen_tool.specs.Performance.{IsAnswerTo, IsRead, IsAnswered, Starves, Stays, Stops}
 
 -- what is found in bytes that were read, by what they are read as
@@ -28,10 +29,10 @@ IsFound Reads bytes (Err Memory) = Unit {0}
 IsFound Reads bytes (Err TooLong) = ⊥
 IsFound Reads bytes (Err Failed) = ⊥
 
--- how a command ends at a fault of its rules, and of its readings
-abbrev pub rules_ending : StepFault RulesFault → Ending
+-- how a command ends at a fault of its rules, of its readings, and of the bounds of both
+abbrev pub rules_ending : StepFault RuleFault → Ending
 rules_ending TooLong = ending.Ended (RulesRefused (of_the_rules rules.FileTooLong))
-rules_ending (Refused fault) = ending.Ended (refused_rules fault)
+rules_ending (Refused fault) = ending.Ended (RulesRefused fault)
 rules_ending Failed = ending.ReadFault
 rules_ending Memory = ending.Memory
 
@@ -41,11 +42,24 @@ readings_ending (Refused fault) = ending.Ended (ReadingsRefused fault)
 readings_ending Failed = ending.ReadFault
 readings_ending Memory = ending.Memory
 
+abbrev pub bounds_ending : MakeFault → Ending
+bounds_ending bounds.TooManyBounds = ending.Ended TooManyBounds
+bounds_ending bounds.Memory = ending.Memory
+
 -- The reply is the answer: what it comes to, and its texts.
 pub record IsReplyOf (answer : Answer) (reply : Reply) : Type 0 where
   pub outcome : answer.outcome ≡ reply.outcome
   pub cert : answer.cert ≡ option_map (λ text. text.items) reply.cert
   pub out : answer.out ≡ option_map (λ text. text.items) reply.out
+
+-- What comes of files that are accepted, to which these are the answers: the reply of one of them; the end by one that
+-- writes nothing; or want of memory.
+abbrev pub Comes : (Answer → Type 0) → Result Reply Ending → Type 0
+Comes Answers (Ok reply) = (answer : Answer) × IsReplyOf answer reply × Answers answer
+Comes Answers (Err (ending.Ended outcome)) = (answer : Answer) × (answer.outcome ≡ outcome) × (answer.cert ≡ None) × (answer.out ≡ None) × Answers answer
+Comes Answers (Err ending.ReadFault) = ⊥
+Comes Answers (Err ending.WriteFault) = ⊥
+Comes Answers (Err ending.Memory) = Unit {0}
 
 module _ {S : Type 0} (left : S → Option (List ℕ)) (source_faults : S → ℕ) where
   -- Reading stopped, and what came is the front of what was there; this happened to the count of faults.

@@ -1,38 +1,36 @@
 //! The steps of a command that read its rules and its readings.
 ghost use Rattle.rule_file.specs.declared.read.TheConstants.{LONGEST as longest_rules};
-ghost use Rattle.narrow_csv.specs.declared.read.TheConstants.{LONGEST as longest_readings};
-ghost use Rattle.narrow_csv.specs.ReadingsFile.{Reads as ReadsReadings};
-ghost use Rattle.screen_tool.specs.Narrow.{Reads as ReadsRules};
+ghost use Rattle.rule_file.specs.File.{ReadsFile};
+ghost use Rattle.series_csv.specs.declared.table.TheConstants.{LONGEST as longest_readings};
+ghost use Rattle.series_csv.specs.File.{ReadsTable};
 ghost use Rattle.screen_tool.specs.Step.{IsFound, IsStep, WasRead};
 
-use crate::narrow::{RulesFault, whole_speed};
-use crate::speed::WholeSpeed;
 use crate::step::StepFault;
-use narrow_csv::{Table, TableCause, TableFault, read_table};
-use rule_file::{RuleCause, read_rules};
+use rule_file::{RuleCause, RuleFault, Rules, read_rules};
 use screen_io::{ReadFault, Source, read_all};
-use std::alloc::{AllocError, Global};
+use series_csv::{Table, TableCause, TableFault, read_table};
+use std::alloc::Global;
 
 /// Reads the rules.
 pub(crate) fn rules_from<S: Source>(
     alloc: Global,
     src: &mut S,
-) -> Result<WholeSpeed, StepFault<RulesFault>>
-    ensures { IsStep S.left S.faults longest_rules ReadsRules src.old src.new result }
+) -> Result<Rules, StepFault<RuleFault>>
+    ensures { IsStep S.left S.faults longest_rules ReadsFile src.old src.new result }
 {
     let bytes = bytes_from(alloc, src, rule_file::LONGEST as u64)?;
     rules_of(alloc, bytes.as_slice())
 }
 
-/// Reads the readings of the rules' sensor.
+/// Reads the readings of the rules' sensors.
 pub(crate) fn table_from<S: Source>(
     alloc: Global,
-    rules: &WholeSpeed,
+    rules: &Rules,
     src: &mut S,
 ) -> Result<Table, StepFault<TableFault>>
-    ensures { IsStep S.left S.faults longest_readings (ReadsReadings rules.now.sensor) src.old src.new result }
+    ensures { IsStep S.left S.faults longest_readings (ReadsTable rules.now) src.old src.new result }
 {
-    let bytes = bytes_from(alloc, src, narrow_csv::LONGEST as u64)?;
+    let bytes = bytes_from(alloc, src, series_csv::LONGEST as u64)?;
     table_of(alloc, rules, bytes.as_slice())
 }
 
@@ -53,26 +51,21 @@ fn bytes_from<S: Source, F>(
 }
 
 /// The rules that the bytes spell.
-fn rules_of(alloc: Global, bytes: &[u8]) -> Result<WholeSpeed, StepFault<RulesFault>>
-    ensures { IsFound ReadsRules bytes.now result }
+fn rules_of(alloc: Global, bytes: &[u8]) -> Result<Rules, StepFault<RuleFault>>
+    ensures { IsFound ReadsFile bytes.now result }
 {
-    let rules = match read_rules(alloc, bytes) {
-        Ok(rules) => rules,
-        Err(fault) if fault.cause == RuleCause::Memory => return Err(StepFault::Memory),
-        Err(fault) => return Err(StepFault::Refused(RulesFault::Refused(fault))),
-    };
-    match whole_speed(alloc, &rules) {
-        Ok(Some(speed)) => Ok(speed),
-        Ok(None) => Err(StepFault::Refused(RulesFault::NotBuilt)),
-        Err(AllocError) => Err(StepFault::Memory),
+    match read_rules(alloc, bytes) {
+        Ok(rules) => Ok(rules),
+        Err(fault) if fault.cause == RuleCause::Memory => Err(StepFault::Memory),
+        Err(fault) => Err(StepFault::Refused(fault)),
     }
 }
 
 /// The table that the bytes spell.
-fn table_of(alloc: Global, rules: &WholeSpeed, bytes: &[u8]) -> Result<Table, StepFault<TableFault>>
-    ensures { IsFound (ReadsReadings rules.now.sensor) bytes.now result }
+fn table_of(alloc: Global, rules: &Rules, bytes: &[u8]) -> Result<Table, StepFault<TableFault>>
+    ensures { IsFound (ReadsTable rules.now) bytes.now result }
 {
-    match read_table(alloc, rules.sensor.bytes(), bytes) {
+    match read_table(alloc, rules, bytes) {
         Ok(table) => Ok(table),
         Err(fault) if fault.cause == TableCause::Memory => Err(StepFault::Memory),
         Err(fault) => Err(StepFault::Refused(fault)),

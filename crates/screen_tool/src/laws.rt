@@ -2,13 +2,13 @@
 ghost use Rattle.screen_tool.specs.Answers.{OneOutcome, RestsOnRead};
 ghost use Rattle.screen_tool.specs.Files.{RulesAreOne, ReadingsAreOne};
 
-/// The rules are read as one thing only, and so are the readings.
+/// The rules are read as one thing only, and so are the readings by any rules.
 pub(crate) fn files_are_one()
     ensures rules { RulesAreOne }
     ensures readings { ReadingsAreOne }
 {
     rule_file::one_answer();
-    narrow_csv::one_answer();
+    series_csv::one_answer();
 }
 
 /// A command comes to one outcome only, whatever its sources hold and whatever text it may choose.

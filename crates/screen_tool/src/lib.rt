@@ -5,17 +5,17 @@
 #![tactic(auto)]
 
 mod bounds;
+mod cert;
 mod command;
 mod ends;
 mod files;
 mod global;
 mod laws;
-mod narrow;
 mod note;
 mod outside;
+mod prices;
 mod program;
 mod reply;
-mod speed;
 mod status;
 mod step;
 #[cfg(test)]

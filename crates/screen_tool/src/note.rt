@@ -1,13 +1,16 @@
 //! What the program says on standard error.
 ghost use Rattle.std.specs.Prelude.{◌≡◌, ◌+◌, ◌++◌, ◌≤◌, length, decimal};
 ghost use Rattle.arrayvec.specs.ArrayString.{array_string_len};
-ghost use Rattle.screen_tool.specs.Note.{note_text, outcome_text, rule_cause_name, table_cause_name};
+ghost use Rattle.screen_tool.specs.Note.{note_text, outcome_text, readings_text, rule_cause_name, table_cause_name, time_fault_name, number_fault_name, cut_fault_name};
 
 use crate::status::{Ending, Outcome};
 use arrayvec::ArrayString;
+use fix_point::NumFault;
 use itoa::Buffer;
-use narrow_csv::{TableCause, TableFault};
+use record_cut::CutFault;
 use rule_file::{RuleCause, RuleFault};
+use series_csv::{TableCause, TableFault};
+use time_text::TimeFault;
 
 /// The room for a note, in bytes.
 const ROOM: usize = 128;
@@ -40,8 +43,8 @@ fn outcome_note(outcome: &Outcome) -> Note
         Outcome::Done => {}
         Outcome::Usage => note.push_str(USAGE),
         Outcome::RulesRefused(fault) => return rules_note(fault),
-        Outcome::RulesNotBuilt => note.push_str("screen: rules refused: NotBuilt, rule 0\n"),
-        Outcome::ReadingsRefused(fault) => return readings_note(fault),
+        Outcome::ReadingsRefused(fault) => return table_note(fault),
+        Outcome::TooManyBounds => return readings_note("TooManyBounds", 0, 0),
         Outcome::NeedsRepair => note.push_str("screen: the readings need repair\n"),
     }
     note
@@ -59,16 +62,24 @@ fn rules_note(fault: &RuleFault) -> Note
     note
 }
 
-fn readings_note(fault: &TableFault) -> Note
+fn table_note(fault: &TableFault) -> Note
     ensures { result.bytes ≡ outcome_text (Outcome.ReadingsRefused fault.now) }
+{
+    readings_note(table_cause_name(fault.cause), fault.row, fault.col)
+}
+
+/// Why the readings are refused, by a name of at most 20 bytes.
+fn readings_note(name: &str, row: u32, col: u32) -> Note
+    requires { length name.now ≤ 20 }
+    ensures { result.bytes ≡ readings_text name.now row col }
 {
     let mut note = Note::new();
     note.push_str("screen: readings refused: ");
-    note.push_str(table_cause_name(fault.cause));
+    note.push_str(name);
     note.push_str(", row ");
-    push_number(&mut note, fault.row);
+    push_number(&mut note, row);
     note.push_str(", column ");
-    push_number(&mut note, fault.col);
+    push_number(&mut note, col);
     note.push_str("\n");
     note
 }
@@ -103,13 +114,59 @@ fn rule_cause_name(cause: RuleCause) -> &'static str
     }
 }
 
+/// The name of the cause, or of what is wrong with a time, a value or a record.
 fn table_cause_name(cause: TableCause) -> &'static str
     ensures name { result.now ≡ table_cause_name cause }
     ensures short { length result.now ≤ 20 }
 {
     match cause {
-        TableCause::NotBuilt => "NotBuilt",
+        TableCause::NoHeader => "NoHeader",
+        TableCause::TooManyColumns => "TooManyColumns",
+        TableCause::NameTwice => "NameTwice",
+        TableCause::NoSuchSensor { rule: _ } => "NoSuchSensor",
+        TableCause::Width => "Width",
+        TableCause::Time(fault) => time_fault_name(fault),
+        TableCause::TimeNotRising => "TimeNotRising",
+        TableCause::Value(fault) => number_fault_name(fault),
+        TableCause::TooManyRows => "TooManyRows",
+        TableCause::TooManyReadings => "TooManyReadings",
+        TableCause::Cut(fault) => cut_fault_name(fault),
         TableCause::FileTooLong => "FileTooLong",
         TableCause::Memory => "Memory",
+    }
+}
+
+fn time_fault_name(fault: TimeFault) -> &'static str
+    ensures name { result.now ≡ time_fault_name fault }
+    ensures short { length result.now ≤ 20 }
+{
+    match fault {
+        TimeFault::NotTime => "NotTime",
+        TimeFault::TimeTooFine => "TimeTooFine",
+        TimeFault::TimeOutOfRange => "TimeOutOfRange",
+        TimeFault::Memory => "Memory",
+    }
+}
+
+fn number_fault_name(fault: NumFault) -> &'static str
+    ensures name { result.now ≡ number_fault_name fault }
+    ensures short { length result.now ≤ 20 }
+{
+    match fault {
+        NumFault::NotNumber => "NotNumber",
+        NumFault::TooFine => "TooFine",
+        NumFault::OutOfRange => "OutOfRange",
+    }
+}
+
+fn cut_fault_name(fault: CutFault) -> &'static str
+    ensures name { result.now ≡ cut_fault_name fault }
+    ensures short { length result.now ≤ 20 }
+{
+    match fault {
+        CutFault::BadQuote => "BadQuote",
+        CutFault::RecordTooLong => "RecordTooLong",
+        CutFault::OpenQuote => "OpenQuote",
+        CutFault::Memory => "Memory",
     }
 }

@@ -22,8 +22,8 @@ use std::alloc::Global;
 /// Does what the words ask for. They do not hold the program's name.
 ///
 /// `global RULES READINGS CERT` reads the rules and then the readings, and writes a certificate and the
-/// repaired readings. For now it writes the readings as they are where they obey the rules, and answers
-/// [`Status::NeedsRepair`] where they do not.
+/// repaired readings. For now it writes the readings with their own values where they keep every bound that the rules
+/// make, those with a price too, and answers [`Status::NeedsRepair`] where they do not.
 ///
 /// Every text is made before the first is written. A note that can't be written changes nothing.
 pub fn run<S: Source, K: Sink>(
@@ -48,7 +48,7 @@ pub fn run<S: Source, K: Sink>(
     ensures headline { command_of (texts words.now) ≡ Some Command.Global →
         Headline S.left S.faults K.held K.faults ins.old ins.new outs.old outs.new result }
 {
-    // The laws behind `due` and `headline`; they do nothing.
+    // The laws that show `due` and `headline`; they do nothing.
     files_are_one();
     one_outcome();
     rests_on_read();

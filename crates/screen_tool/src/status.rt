@@ -2,10 +2,10 @@
 ghost use Rattle.std.specs.Prelude.{◌≡◌};
 ghost use Rattle.screen_tool.specs.Ending.{code_of, status_of};
 
-use crate::narrow::RulesFault;
 use crate::step::StepFault;
-use narrow_csv::TableFault;
+use bound_maker::MakeFault;
 use rule_file::RuleFault;
+use series_csv::{TableCause, TableFault};
 use std::alloc::AllocError;
 
 /// How a run ended, as its exit status tells it.
@@ -17,7 +17,7 @@ pub enum Status {
     Usage,
     /// 3: the rules are refused.
     RulesRefused,
-    /// 4: the readings are refused.
+    /// 4: the readings are refused, or the rules make too many bounds of them.
     ReadingsRefused,
     /// 5: a read failed.
     ReadFault,
@@ -25,7 +25,7 @@ pub enum Status {
     WriteFault,
     /// 7: memory ran out.
     Memory,
-    /// 9: the readings do not obey the rules, and repair is not built yet.
+    /// 9: the readings do not keep every bound of the rules, and repair is not built yet.
     NeedsRepair,
 }
 
@@ -56,11 +56,11 @@ pub enum Outcome {
     Usage,
     /// The rules are refused.
     RulesRefused(RuleFault),
-    /// The rules are of a kind that the program does not work with so far.
-    RulesNotBuilt,
     /// The readings are refused.
     ReadingsRefused(TableFault),
-    /// The readings do not obey the rules.
+    /// The rules make more than 4,000,000 bounds of the readings.
+    TooManyBounds,
+    /// The readings do not keep every bound.
     NeedsRepair,
 }
 
@@ -85,10 +85,10 @@ impl Ending {
         match self {
             Ending::Ended(Outcome::Done) => Status::Done,
             Ending::Ended(Outcome::Usage) => Status::Usage,
-            Ending::Ended(Outcome::RulesRefused(_) | Outcome::RulesNotBuilt) => {
-                Status::RulesRefused
+            Ending::Ended(Outcome::RulesRefused(_)) => Status::RulesRefused,
+            Ending::Ended(Outcome::ReadingsRefused(_) | Outcome::TooManyBounds) => {
+                Status::ReadingsRefused
             }
-            Ending::Ended(Outcome::ReadingsRefused(_)) => Status::ReadingsRefused,
             Ending::Ended(Outcome::NeedsRepair) => Status::NeedsRepair,
             Ending::ReadFault => Status::ReadFault,
             Ending::WriteFault => Status::WriteFault,
@@ -108,19 +108,16 @@ impl From<AllocError> for Ending {
     }
 }
 
-impl From<StepFault<RulesFault>> for Ending {
+impl From<StepFault<RuleFault>> for Ending {
     ghost use Rattle.std.specs.Prelude.{◌≡◌};
     ghost use Rattle.screen_tool.specs.Step.{rules_ending};
 
     ghost from_gives = { λ fault ending. ending ≡ rules_ending fault };
 
-    fn from(fault: StepFault<RulesFault>) -> Ending {
+    fn from(fault: StepFault<RuleFault>) -> Ending {
         match fault {
             StepFault::TooLong => Ending::Ended(Outcome::RulesRefused(RuleFault::too_long())),
-            StepFault::Refused(RulesFault::Refused(fault)) => {
-                Ending::Ended(Outcome::RulesRefused(fault))
-            }
-            StepFault::Refused(RulesFault::NotBuilt) => Ending::Ended(Outcome::RulesNotBuilt),
+            StepFault::Refused(fault) => Ending::Ended(Outcome::RulesRefused(fault)),
             StepFault::Failed => Ending::ReadFault,
             StepFault::Memory => Ending::Memory,
         }
@@ -135,10 +132,26 @@ impl From<StepFault<TableFault>> for Ending {
 
     fn from(fault: StepFault<TableFault>) -> Ending {
         match fault {
-            StepFault::TooLong => Ending::Ended(Outcome::ReadingsRefused(TableFault::too_long())),
+            StepFault::TooLong => Ending::Ended(Outcome::ReadingsRefused(TableFault::of_the_file(
+                TableCause::FileTooLong,
+            ))),
             StepFault::Refused(fault) => Ending::Ended(Outcome::ReadingsRefused(fault)),
             StepFault::Failed => Ending::ReadFault,
             StepFault::Memory => Ending::Memory,
+        }
+    }
+}
+
+impl From<MakeFault> for Ending {
+    ghost use Rattle.std.specs.Prelude.{◌≡◌};
+    ghost use Rattle.screen_tool.specs.Step.{bounds_ending};
+
+    ghost from_gives = { λ fault ending. ending ≡ bounds_ending fault };
+
+    fn from(fault: MakeFault) -> Ending {
+        match fault {
+            MakeFault::TooManyBounds => Ending::Ended(Outcome::TooManyBounds),
+            MakeFault::Memory => Ending::Memory,
         }
     }
 }

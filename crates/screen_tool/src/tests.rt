@@ -6,16 +6,46 @@ use std::alloc::{AllocError, Global};
 use std::process::Abort;
 use std::test::Fail;
 
-const RULES: &[u8] =
-    b"[format]\ndecimals = 0\n[[speed]]\nsensor = \"x\"\nmin = -1\nmax = 1\nper = 1\nwindow = 10\n";
-
-/// The same as a text.
+/// The sensor x may change by 1 in a second.
 const BASE: &str =
     "[format]\ndecimals = 0\n[[speed]]\nsensor = \"x\"\nmin = -1\nmax = 1\nper = 1\nwindow = 10\n";
+
+/// By 1 in three seconds: neighbours a second apart may not move.
+const SLOW: &str =
+    "[format]\ndecimals = 0\n[[speed]]\nsensor = \"x\"\nmin = -1\nmax = 1\nper = 3\nwindow = 10\n";
+
+/// The same in hundredths: 33 of them in a second.
+const FINE: &str =
+    "[format]\ndecimals = 2\n[[speed]]\nsensor = \"x\"\nmin = -1\nmax = 1\nper = 3\nwindow = 10\n";
+
+/// By exactly a third in a second, which no whole number does.
+const EXACT: &str =
+    "[format]\ndecimals = 0\n[[speed]]\nsensor = \"x\"\nmin = 1\nmax = 1\nper = 3\nwindow = 10\n";
+
+/// A speed rule whose bounds may be broken for a price.
+const PRICED: &str =
+    "[format]\ndecimals = 0\n[[speed]]\nsensor = \"x\"\nmin = -1\nmax = 1\nwindow = 10\nprice = 1\n[[weight]]\nsensor = \"x\"\nweight = 5\n";
+
+/// A speed rule, and readings that are right.
+const TRUST: &str =
+    "[format]\ndecimals = 0\n[[speed]]\nsensor = \"x\"\nmin = -1\nmax = 1\nwindow = 10\n[[trust]]\nsensor = \"x\"\n";
+
+const RANGE: &str = "[format]\ndecimals = 0\n[[range]]\nsensor = \"x\"\nmax = 50\n";
+
+const SWING: &str = "[format]\ndecimals = 0\n[[swing]]\nsensor = \"x\"\nmost = 5\nwindow = 10\n";
+
+const DRIFT: &str =
+    "[format]\ndecimals = 0\n[[drift]]\nsensor = \"x\"\nmin = -1\nmax = 1\nper = 10\nover = 10\nwindow = 20\n";
+
+const BETWEEN: &str =
+    "[format]\ndecimals = 0\n[[between]]\nfirst = \"in\"\nsecond = \"out\"\nmin = 0\nmax = 5\n";
 
 const READINGS: &[u8] = b"time,x\n0,10\n1,11\n2,12\n";
 
 const CERT: &[u8] = b"screen-cert 1\nclaim repair\ntotal 0\nend\n";
+
+/// The certificate where some rule has a price.
+const PRICED_CERT: &[u8] = b"screen-cert 2\nclaim repair\ntotal 0\npaid 0\nend\n";
 
 /// The words of `global`.
 const GLOBAL: [&str; 4] = ["global", "r", "d", "c"];
@@ -95,146 +125,281 @@ fn run_over(
     })
 }
 
-fn global(alloc: Global, rules: &[u8], readings: &[u8]) -> Result<Ran, AllocError> {
-    let rules = source(alloc, rules, &[])?;
+fn global(alloc: Global, rules: &str, readings: &[u8]) -> Result<Ran, AllocError> {
+    let rules = source(alloc, rules.as_bytes(), &[])?;
     let readings = source(alloc, readings, &[])?;
     run_with(alloc, &GLOBAL, rules, readings, sink(alloc, &[])?)
 }
 
-#[test]
-fn readings_that_obey_are_written_unchanged(rt: HostRuntime) -> Result<(), Fail> {
-    let alloc = rt.alloc();
-    for readings in [
-        READINGS,
-        b"time,x\n",
-        // The gap is longer than the window.
-        b"time,x\n0,0\n11,100\n",
-        b"time,x\n0,0\n10,10\n",
-    ] {
-        global(alloc, RULES, readings)?.assert_is(&rt, Status::Done, readings, CERT, b"");
-    }
+/// Rules, readings that keep all their bounds, and what is written of these.
+const KEPT: [(&str, &str, &str); 17] = [
+    (
+        BASE,
+        "time,x\n0,10\n1,11\n2,12\n",
+        "time,x\n0,10\n1,11\n2,12\n",
+    ),
+    (BASE, "time,x\n", "time,x\n"),
+    // The gap is longer than the window, and then as long.
+    (BASE, "time,x\n0,0\n11,100\n", "time,x\n0,0\n11,100\n"),
+    (BASE, "time,x\n0,0\n10,10\n", "time,x\n0,0\n10,10\n"),
+    (BASE, "time,x\n0,0\n1,\n2,2\n", "time,x\n0,0\n1,\n2,2\n"),
+    (
+        BASE,
+        "time,x\n0,0\n1,NaN\n2,2\n",
+        "time,x\n0,0\n1,NaN\n2,2\n",
+    ),
+    // The mark, the line breaks and the spelling of readings go; the rest stays.
+    (
+        BASE,
+        "\u{feff}time,x,note\r\n0,10,\"a, b\"\r\n",
+        "time,x,note\n0,10,\"a, b\"\n",
+    ),
+    (
+        BASE,
+        "time, x\n\n0.0, +7\n1.0,8e0",
+        "time, x\n0.0,7\n1.0,8\n",
+    ),
+    (
+        SLOW,
+        "time,x\n0,0\n1,0\n2,0\n5,1\n",
+        "time,x\n0,0\n1,0\n2,0\n5,1\n",
+    ),
+    (FINE, "time,x\n0,0\n1,0.33\n", "time,x\n0,0.00\n1,0.33\n"),
+    (EXACT, "time,x\n0,0\n3,1\n", "time,x\n0,0\n3,1\n"),
+    (TRUST, "time,x\n0,0\n1,1\n", "time,x\n0,0\n1,1\n"),
+    (RANGE, "time,x\n0,50\n", "time,x\n0,50\n"),
+    (
+        SWING,
+        "time,x\n0,0\n5,5\n11,10\n",
+        "time,x\n0,0\n5,5\n11,10\n",
+    ),
+    // Only the first and the last are far enough apart, but not too far.
+    (
+        DRIFT,
+        "time,x\n0,0\n5,5\n10,1\n",
+        "time,x\n0,0\n5,5\n10,1\n",
+    ),
+    (
+        BETWEEN,
+        "time,out,in\n0,15,10\n1,,10\n2,5,5\n",
+        "time,out,in\n0,15,10\n1,,10\n2,5,5\n",
+    ),
+    (
+        PRICED,
+        "time,x\n0,10\n1,11\n2,10\n",
+        "time,x\n0,10\n1,11\n2,10\n",
+    ),
+];
+
+fn assert_kept(
+    rt: &impl Abort,
+    alloc: Global,
+    rules: &str,
+    readings: &str,
+    written: &str,
+) -> Result<(), Fail> {
+    let cert = if rules == PRICED { PRICED_CERT } else { CERT };
+    let ran = global(alloc, rules, readings.as_bytes())?;
+    ran.assert_is(rt, Status::Done, written.as_bytes(), cert, b"");
     Ok(())
 }
 
 #[test]
-fn readings_that_do_not_obey_need_repair(rt: HostRuntime) -> Result<(), Fail> {
-    let alloc = rt.alloc();
+fn readings_that_keep_all_bounds_are_written(rt: HostRuntime) -> Result<(), Fail> {
+    for (rules, readings, written) in KEPT {
+        assert_kept(&rt, rt.alloc(), rules, readings, written)?;
+    }
+    Ok(())
+}
+
+/// Rules, and readings that break one of their bounds.
+const BROKEN: [(&str, &str); 15] = [
+    (BASE, "time,x\n0,10\n1,11\n2,20\n3,13\n"),
+    (BASE, "time,x\n0,0\n1,3\n"),
+    // The gap is the window.
+    (BASE, "time,x\n0,0\n10,100\n"),
+    (BASE, "time,x\n0,0\n10,11\n"),
+    (BASE, "time,x\n0,11\n10,0\n"),
+    (BASE, "time,x\n0,0\n1,\n2,3\n"),
+    (TRUST, "time,x\n0,0\n1,100\n"),
+    (FINE, "time,x\n0,0.00\n1,1.00\n"),
+    (SLOW, "time,x\n0,0\n1,0\n2,0\n3,1\n"),
+    (EXACT, "time,x\n0,0\n1,0\n"),
+    (BETWEEN, "time,in,out\n0,10,20\n"),
+    (RANGE, "time,x\n0,70\n"),
+    (SWING, "time,x\n0,0\n5,4\n10,8\n"),
+    (DRIFT, "time,x\n0,0\n5,5\n10,9\n"),
+    // The broken bound has a price.
+    (PRICED, "time,x\n0,0\n1,100\n"),
+];
+
+fn assert_broken(
+    rt: &impl Abort,
+    alloc: Global,
+    rules: &str,
+    readings: &str,
+) -> Result<(), AllocError> {
     let note = b"screen: the readings need repair\n";
-    for readings in [
-        b"time,x\n0,10\n1,11\n2,20\n3,13\n".as_slice(),
-        b"time,x\n0,0\n1,3\n",
-        // The gap is the window.
-        b"time,x\n0,0\n10,11\n",
-        b"time,x\n0,11\n10,0\n",
-    ] {
-        global(alloc, RULES, readings)?.assert_is(&rt, Status::NeedsRepair, b"", b"", note);
-    }
+    let ran = global(alloc, rules, readings.as_bytes())?;
+    ran.assert_is(rt, Status::NeedsRepair, b"", b"", note);
     Ok(())
 }
 
 #[test]
-fn a_step_is_rounded_down(rt: HostRuntime) -> Result<(), Fail> {
-    let alloc = rt.alloc();
-    // One in three seconds: neighbours may not move.
-    let rules =
-        b"[format]\ndecimals = 0\n[[speed]]\nsensor = \"x\"\nmin = -1\nmax = 1\nper = 3\nwindow = 10\n";
-    let still = b"time,x\n0,0\n1,0\n2,0\n";
-    global(alloc, rules, still)?.assert_is(&rt, Status::Done, still, CERT, b"");
-    let note = b"screen: the readings need repair\n";
-    for moved in [
-        b"time,x\n0,0\n1,0\n2,0\n3,1\n".as_slice(),
-        // Two thirds of a step are none.
-        b"time,x\n0,0\n2,1\n",
-    ] {
-        global(alloc, rules, moved)?.assert_is(&rt, Status::NeedsRepair, b"", b"", note);
+fn readings_that_break_a_bound_need_repair(rt: HostRuntime) -> Result<(), Fail> {
+    for (rules, readings) in BROKEN {
+        assert_broken(&rt, rt.alloc(), rules, readings)?;
     }
     Ok(())
 }
 
-/// So many rows, a second apart, whose readings fall and rise by one; times have nine digits and readings a sign.
-fn swinging(alloc: Global, sensor: &str, rows: u32) -> Result<String, Fail> {
-    let mut text = format!(in alloc; "time,{sensor}\n")?;
+/// The first times of each second, and readings that are all 0.
+fn still(alloc: Global, rows: u32) -> Result<String, Fail> {
+    let mut text = String::from_str(alloc, "time,x\n")?;
     for row in 0..rows {
-        let time = 900_000_000 + u64::from(row);
-        let value = 123_456_780 + row % 2;
-        text.push_str(format!(in alloc; "{time},-{value}\n")?.as_str())?;
+        text.push_str(format!(in alloc; "{row},0\n")?.as_str())?;
     }
     Ok(text)
 }
 
-#[test]
-fn a_thousand_rows_within_one_window(rt: HostRuntime) -> Result<(), Fail> {
-    let alloc = rt.alloc();
-    let sensor = "abcdefghijklmnopqrstuvwxyzabcdef";
-    let rules = changed(alloc, "window = 10", "window = 1000")?;
-    let rules = match rules.as_str().split_once("\"x\"") {
-        Some((before, after)) => format!(in alloc; "{before}\"{sensor}\"{after}")?,
-        None => rules,
-    };
-    let mut text = swinging(alloc, sensor, 999)?;
-    let obeying = format!(in alloc; "{}900000999,-123456781\n", text.as_str())?;
-    let readings = obeying.as_bytes();
-    global(alloc, rules.as_bytes(), readings)?.assert_is(&rt, Status::Done, readings, CERT, b"");
-    // The last reading breaks the bound to the one before it.
-    text.push_str("900000999,-123456790\n")?;
-    let note = b"screen: the readings need repair\n";
-    global(alloc, rules.as_bytes(), text.as_bytes())?.assert_is(
-        &rt,
-        Status::NeedsRepair,
-        b"",
-        b"",
-        note,
-    );
+/// Readings that are refused, and what the note says of them.
+const REFUSED: [(&str, &str); 16] = [
+    ("", "NoHeader, row 0, column 0"),
+    ("time,x,x\n", "NameTwice, row 0, column 3"),
+    ("time,y\n", "NoSuchSensor, row 0, column 0"),
+    ("time,x\n1,2,3\n", "Width, row 1, column 0"),
+    ("time,x\nnoon,1\n", "NotTime, row 1, column 1"),
+    ("time,x\n0.0000000001,1\n", "TimeTooFine, row 1, column 1"),
+    ("time,x\n9000000001,1\n", "TimeOutOfRange, row 1, column 1"),
+    ("time,x\n0,1\n0,1\n", "TimeNotRising, row 2, column 1"),
+    ("time,x\n0,1\n1,abc\n", "NotNumber, row 2, column 2"),
+    ("time,x\n0,0.5\n", "TooFine, row 1, column 2"),
+    (
+        "time,x\n0,1000000000000001\n",
+        "OutOfRange, row 1, column 2",
+    ),
+    ("time,x\n0,1\"\n", "BadQuote, row 1, column 0"),
+    ("time,x\n0,1\n1,\"2", "OpenQuote, row 2, column 0"),
+    ("\"time\"?,x\n", "BadQuote, row 0, column 0"),
+    // An earlier record comes first, and so does an earlier check.
+    ("time,x\n0,a\n1,\"2", "NotNumber, row 1, column 2"),
+    ("time,x\nnoon,a\n", "NotTime, row 1, column 1"),
+];
+
+fn assert_readings_refused(
+    rt: &impl Abort,
+    alloc: Global,
+    rules: &str,
+    readings: &str,
+    fault: &str,
+) -> Result<(), Fail> {
+    let note = format!(in alloc; "screen: readings refused: {fault}\n")?;
+    let ran = global(alloc, rules, readings.as_bytes())?;
+    ran.assert_is(rt, Status::ReadingsRefused, b"", b"", note.as_bytes());
     Ok(())
 }
 
 #[test]
 fn refused_readings_are_named(rt: HostRuntime) -> Result<(), Fail> {
-    let note = b"screen: readings refused: NotBuilt, row 0, column 0\n";
-    global(rt.alloc(), RULES, b"")?.assert_is(&rt, Status::ReadingsRefused, b"", b"", note);
-    Ok(())
-}
-
-/// The base rules with another text in the place of one of their parts.
-fn changed(alloc: Global, part: &str, other: &str) -> Result<String, AllocError> {
-    match BASE.split_once(part) {
-        Some((before, after)) => format!(in alloc; "{before}{other}{after}"),
-        None => String::from_str(alloc, BASE),
+    for (readings, fault) in REFUSED {
+        assert_readings_refused(&rt, rt.alloc(), BASE, readings, fault)?;
     }
-}
-
-fn assert_refused(rt: &impl Abort, alloc: Global, rules: &str, fault: &str) -> Result<(), Fail> {
-    let note = format!(in alloc; "screen: rules refused: {fault}\n")?;
-    global(alloc, rules.as_bytes(), READINGS)?.assert_is(
-        rt,
-        Status::RulesRefused,
-        b"",
-        b"",
-        note.as_bytes(),
-    );
     Ok(())
 }
 
 #[test]
-fn refused_files_are_named(rt: HostRuntime) -> Result<(), Fail> {
+fn too_many_columns_and_too_long_a_record_are_named(rt: HostRuntime) -> Result<(), Fail> {
     let alloc = rt.alloc();
-    let cases = [
-        ("[[speed]]", "[[speed]", "Syntax, rule 0"),
-        (BASE, "", "MissingKey, rule 0"),
-        ("max = 1", "max = 0.5", "WrongKind, rule 1"),
-        ("min = -1", "min = 2", "Order, rule 1"),
-        ("decimals = 0", "decimals = 1", "NotBuilt, rule 0"),
-        ("max = 1", "max = \"0.5\"", "NotBuilt, rule 0"),
-        ("window = 10", "window = 10\nprice = 1", "NotBuilt, rule 0"),
-        (
-            "window = 10",
-            "window = 10\nprice = 0",
-            "OutOfLimit, rule 1",
-        ),
-    ];
-    for (part, other, fault) in cases {
-        let rules = changed(alloc, part, other)?;
-        assert_refused(&rt, alloc, rules.as_str(), fault)?;
+    let wide = repeated(alloc, "time,x", ",", 255)?;
+    let fault = "TooManyColumns, row 0, column 0";
+    assert_readings_refused(&rt, alloc, BASE, wide.as_str(), fault)?;
+    let long = repeated(alloc, "time,x\n0,", "7", 70_000)?;
+    let fault = "RecordTooLong, row 1, column 0";
+    assert_readings_refused(&rt, alloc, BASE, long.as_str(), fault)
+}
+
+#[test]
+fn too_many_bounds_are_named(rt: HostRuntime) -> Result<(), Fail> {
+    let alloc = rt.alloc();
+    // Each two of the readings stand within the window: they have 4,002,000 bounds, and each has two more.
+    let rules = changed(alloc, SWING, "window = 10", "window = 2000")?;
+    let readings = still(alloc, 2_001)?;
+    let fault = "TooManyBounds, row 0, column 0";
+    assert_readings_refused(&rt, alloc, rules.as_str(), readings.as_str(), fault)?;
+    // A speed rule speaks of neighbours alone.
+    let rules = changed(alloc, BASE, "window = 10", "window = 2000")?;
+    assert_kept(
+        &rt,
+        alloc,
+        rules.as_str(),
+        readings.as_str(),
+        readings.as_str(),
+    )
+}
+
+/// A text, and then another one so many times.
+fn repeated(alloc: Global, text: &str, other: &str, times: u32) -> Result<String, AllocError> {
+    let mut whole = String::from_str(alloc, text)?;
+    for _ in 0..times {
+        whole.push_str(other)?;
+    }
+    Ok(whole)
+}
+
+/// The rules with another text in the place of one of their parts.
+fn changed(alloc: Global, rules: &str, part: &str, other: &str) -> Result<String, AllocError> {
+    match rules.split_once(part) {
+        Some((before, after)) => format!(in alloc; "{before}{other}{after}"),
+        None => String::from_str(alloc, rules),
+    }
+}
+
+/// A part of the base rules, what stands in its place, and what the note says of the rules then.
+const REFUSED_RULES: [(&str, &str, &str); 8] = [
+    ("[[speed]]", "[[speed]", "Syntax, rule 0"),
+    (BASE, "", "MissingKey, rule 0"),
+    ("max = 1", "max = 0.5", "WrongKind, rule 1"),
+    ("min = -1", "min = 2", "Order, rule 1"),
+    (
+        "window = 10",
+        "window = 10\nprice = 0",
+        "OutOfLimit, rule 1",
+    ),
+    (
+        "window = 10",
+        "window = 10\nprice = \"2\"",
+        "WrongKind, rule 1",
+    ),
+    (
+        "window = 10",
+        "window = 10\n[[trust]]\nsensor = \"x\"\nprice = 2",
+        "UnknownKey, rule 2",
+    ),
+    (
+        "window = 10",
+        "window = 10\n[[between]]\nfirst = \"x\"\nsecond = \"x\"\nmin = 0\nmax = 1",
+        "SameSensor, rule 2",
+    ),
+];
+
+fn assert_rules_refused(
+    rt: &impl Abort,
+    alloc: Global,
+    rules: &str,
+    fault: &str,
+) -> Result<(), Fail> {
+    let note = format!(in alloc; "screen: rules refused: {fault}\n")?;
+    let ran = global(alloc, rules, READINGS)?;
+    ran.assert_is(rt, Status::RulesRefused, b"", b"", note.as_bytes());
+    Ok(())
+}
+
+#[test]
+fn refused_rules_are_named(rt: HostRuntime) -> Result<(), Fail> {
+    let alloc = rt.alloc();
+    for (part, other, fault) in REFUSED_RULES {
+        let rules = changed(alloc, BASE, part, other)?;
+        assert_rules_refused(&rt, alloc, rules.as_str(), fault)?;
     }
     Ok(())
 }
@@ -242,66 +407,15 @@ fn refused_files_are_named(rt: HostRuntime) -> Result<(), Fail> {
 #[test]
 fn too_many_rules_and_too_long_a_file_are_named(rt: HostRuntime) -> Result<(), Fail> {
     let alloc = rt.alloc();
-    let mut rules = String::from_str(alloc, "[format]\ndecimals = 0\n")?;
-    for _ in 0..1_001 {
-        rules.push_str("[[trust]]\nsensor = \"x\"\n")?;
-    }
-    assert_refused(&rt, alloc, rules.as_str(), "TooMany, rule 0")?;
-    let mut rules = String::from_str(alloc, BASE)?;
-    for _ in rules.len()..1_048_576 {
-        rules.push_str("\n")?;
-    }
-    global(alloc, rules.as_bytes(), READINGS)?.assert_is(&rt, Status::Done, READINGS, CERT, b"");
-    rules.push_str("\n")?;
-    assert_refused(&rt, alloc, rules.as_str(), "FileTooLong, rule 0")
-}
-
-#[test]
-fn rules_beside_the_speed_rule_are_not_built(rt: HostRuntime) -> Result<(), Fail> {
-    let alloc = rt.alloc();
-    for rule in [
-        "[[speed]]\nsensor = \"y\"\nmin = -1\nmax = 1\nwindow = 10\n",
-        "[[swing]]\nsensor = \"x\"\nmost = 5\nwindow = 10\n",
-        "[[drift]]\nsensor = \"x\"\nmin = -1\nmax = 1\nover = 5\nwindow = 10\n",
-        "[[range]]\nsensor = \"x\"\nmax = 20\n",
-        "[[trust]]\nsensor = \"x\"\n",
-        "[[weight]]\nsensor = \"x\"\nweight = 2\n",
-        "[[between]]\nfirst = \"x\"\nsecond = \"y\"\nmin = -1\nmax = 1\n",
-    ] {
-        let rules = format!(in alloc; "{}{rule}", BASE)?;
-        assert_refused(&rt, alloc, rules.as_str(), "NotBuilt, rule 0")?;
-    }
-    Ok(())
-}
-
-#[test]
-fn narrow_rules_may_be_written_otherwise(rt: HostRuntime) -> Result<(), Fail> {
-    let alloc = rt.alloc();
-    let changes = [
-        ("max = 1", "max = \"1.0\""),
-        ("max = 1", "max = 1000000"),
-        ("per = 1\n", ""),
-        ("window = 10", "window = 1000000"),
-        (
-            "decimals = 0",
-            "decimals = 0\ntime = \"time\"\nextra = \"round\"\nhold = 9",
-        ),
-    ];
-    for (part, other) in changes {
-        let rules = changed(alloc, part, other)?;
-        global(alloc, rules.as_bytes(), READINGS)?.assert_is(
-            &rt,
-            Status::Done,
-            READINGS,
-            CERT,
-            b"",
-        );
-    }
-    Ok(())
+    let trust = "[[trust]]\nsensor = \"x\"\n";
+    let rules = repeated(alloc, "[format]\ndecimals = 0\n", trust, 1_001)?;
+    assert_rules_refused(&rt, alloc, rules.as_str(), "TooMany, rule 0")?;
+    let rules = repeated(alloc, BASE, "\n", 1_048_576)?;
+    assert_rules_refused(&rt, alloc, rules.as_str(), "FileTooLong, rule 0")
 }
 
 fn gives_the_usage(rt: &impl Abort, alloc: Global, texts: &[&str]) -> Result<(), AllocError> {
-    let rules = source(alloc, RULES, &[])?;
+    let rules = source(alloc, BASE.as_bytes(), &[])?;
     let readings = source(alloc, READINGS, &[])?;
     let out = sink(alloc, &[])?;
     let ran = run_with(alloc, texts, rules, readings, out)?;
@@ -326,7 +440,7 @@ fn a_read_that_fails_writes_nothing(rt: HostRuntime) -> Result<(), Fail> {
     let note = b"screen: a read failed\n";
     // Sixteen bytes come in each call, and none in the last one.
     for (rules, readings) in [(1, 0), (3, 0), (7, 0), (0, 1), (0, 2), (0, 3)] {
-        let rules = source(alloc, RULES, &[rules])?;
+        let rules = source(alloc, BASE.as_bytes(), &[rules])?;
         let readings = source(alloc, READINGS, &[readings])?;
         run_with(alloc, &GLOBAL, rules, readings, sink(alloc, &[])?)?.assert_is(
             &rt,
@@ -366,7 +480,7 @@ fn a_sink_that_fails_holds_a_front_of_its_text(rt: HostRuntime) -> Result<(), Fa
         let ran = run_over(
             alloc,
             &GLOBAL,
-            source(alloc, RULES, &[])?,
+            source(alloc, BASE.as_bytes(), &[])?,
             source(alloc, READINGS, &[])?,
             outs,
         )?;
@@ -383,7 +497,7 @@ fn a_sink_that_fails_holds_a_front_of_its_text(rt: HostRuntime) -> Result<(), Fa
         let ran = run_over(
             alloc,
             &GLOBAL,
-            source(alloc, RULES, &[])?,
+            source(alloc, BASE.as_bytes(), &[])?,
             source(alloc, READINGS, &[])?,
             outs,
         )?;
@@ -399,7 +513,7 @@ fn a_sink_that_fails_holds_a_front_of_its_text(rt: HostRuntime) -> Result<(), Fa
 #[test]
 fn a_note_that_fails_changes_no_status(rt: HostRuntime) -> Result<(), Fail> {
     let alloc = rt.alloc();
-    let note = b"screen: readings refused: NotBuilt, row 0, column 0\n";
+    let note = b"screen: readings refused: NoHeader, row 0, column 0\n";
     for call in 1..9u64 {
         let outs = Outputs {
             out: sink(alloc, &[])?,
@@ -409,7 +523,7 @@ fn a_note_that_fails_changes_no_status(rt: HostRuntime) -> Result<(), Fail> {
         let ran = run_over(
             alloc,
             &GLOBAL,
-            source(alloc, RULES, &[])?,
+            source(alloc, BASE.as_bytes(), &[])?,
             source(alloc, b"", &[])?,
             outs,
         )?;
