@@ -104,6 +104,8 @@ repaired_over_all rules table series flow total broken laws is =
       paid = is.paid ∙ ap pos pays;
       in_order = part_of_part is.in_order (part_map (λ (priced : Priced). priced.bound.name) part);
       amounts = subst (λ (n : ℕ). AllByRecursion (λ item. item.amount ≤ℤ pos (sum (weights rules table) + n + 1)) flow) prices is.amounts;
+      small_values = is.small_values;
+      small_total = is.small_total;
     }
 
 -- ---- no series

@@ -23,6 +23,7 @@ use Rattle.screen_model.proofs.Cycles.{forbids}
 use Rattle.bound_graph.specs.declared.arc.Arc.{Arc}
 use Rattle.bound_graph.specs.Cycle.{IsNegativeCycle}
 use Rattle.bound_graph.specs.Graph.{arc_of_bound}
+use Rattle.flow_core.specs.declared.limits.TheConstants.{MOST_VALUE}
 use Rattle.flow_core.specs.Layout.{FlowNetwork, network_of, nodes_of, arcs_of, capacities_of, unpriced_capacity, capacity_at_price}
 use Rattle.flow_core.specs.State.{NetworkState, IsNetwork, IsNew, IsWithin, bound_flows, value, is_flowing}
 use Rattle.flow_core.specs.Solving.{by_size, AreAtMost}
@@ -39,6 +40,7 @@ use Rattle.least_cost.specs.Problems.{problem_of, stated, AreSolvable, IsSolvabl
 use Rattle.least_cost.specs.Repair.{IsObeying}
 use Rattle.least_cost.proofs.Cycles.{names_are}
 use Rattle.least_cost.proofs.Greatest.{IsFound}
+use Rattle.least_cost.proofs.Sizes.{cost_below}
 use Rattle.least_cost.proofs.Items.{items_in_order, items_within, count_items, count_front}
 
 -- ---- the network of a problem that can be solved
@@ -97,9 +99,9 @@ bounds_of_network lists =
 flows_same : (problem : Problem) (net : NetworkState) → net.network ≡ network_of problem → take (length (network_of problem).bounds) net.flows ≡ bound_flows net
 flows_same problem net same = λ i. take (length (sym same i).bounds) net.flows
 
-pub is_repaired : (lists : Lists) (net : NetworkState) (series : List ℤ) (items : List FlowItem) (total_paid broken_paid : ℤ) → IsSolvable lists → IsNetworkOf (stated lists) net → IsFound (stated lists) net series
+pub is_repaired : (lists : Lists) (net : NetworkState) (series : List ℤ) (items : List FlowItem) (total_paid broken_paid : ℤ) → IsSolvable lists → IsNetworkOf (stated lists) net → IsFound (stated lists) net series → AllByRecursion (λ value. unsigned_abs value ≤ MOST_VALUE) series
     → items ≡ items_of (stated lists).bounds (bound_flows net) → total_paid ≡ value net → broken_paid ≡ pos (paid (stated lists) series) → IsRepaired (stated lists) series items total_paid broken_paid
-is_repaired lists net series items total_paid broken_paid is network found listed totalled breaking =
+is_repaired lists net series items total_paid broken_paid is network found low listed totalled breaking =
     let problem = stated lists in
     let flow = bound_flows net in
     let best = found.best in
@@ -121,6 +123,9 @@ is_repaired lists net series items total_paid broken_paid is network found liste
       in_order = subst (λ (its : List FlowItem). IsPart (map (λ item. item.name) its) (names_of problem.bounds)) (sym listed) (items_in_order problem.bounds flow count);
       amounts = subst (λ (its : List FlowItem). AllByRecursion (λ item. item.amount ≤ℤ pos (unpriced_capacity (network_of problem))) its) (sym listed)
           (items_within problem.bounds flow (unpriced_capacity (network_of problem)) (omega arith) bounds_within);
+      small_values = low;
+      small_total = subst (λ (z : ℤ). unsigned_abs z < 10 ^ 27) (sym (totalled ∙ found.valued)) (cost_below problem series lists.bounds.now lists.prices.now refl (omega (arith, is.weighted, is.few_readings)) is.few_bounds
+          is.small_weights is.small_values low is.small_limits is.small_prices);
     }
 
 pub are_changes : (lists : Lists) (net : NetworkState) (items : List FlowItem) (most : ℕ → ℕ → ℕ → ℕ → Option ℕ) (changes : ℕ) → IsNetworkOf (stated lists) net → items ≡ items_of (stated lists).bounds (bound_flows net)

@@ -5,3 +5,4 @@ pub mod Greatest
 pub mod Items
 pub mod Lists
 pub mod OneRepair
+pub mod Sizes

@@ -1,5 +1,5 @@
 -- To be believed: what is answered to a problem.
-use Rattle.std.specs.Prelude.{◌≡◌, ◌≤◌, ℕ, ◌+◌, ℤ, pos, ◌≤ℤ◌, List, length, map, sum, Option, IfSome}
+use Rattle.std.specs.Prelude.{◌≡◌, ◌<◌, ◌≤◌, ℕ, ◌+◌, ◌^◌, ℤ, pos, ◌≤ℤ◌, List, length, map, sum, Option, IfSome, unsigned_abs}
 use Rattle.std.specs.List.{AllByRecursion}
 use Rattle.words.specs.Lists.{IsPart}
 use Rattle.screen_model.specs.declared.bound.BoundName.{BoundName}
@@ -7,6 +7,7 @@ use Rattle.screen_model.specs.declared.bound.FlowItem.{FlowItem}
 use Rattle.screen_model.specs.Cost.{Problem, paid, cost}
 use Rattle.screen_model.specs.Names.{names_of}
 use Rattle.screen_model.specs.Best.{IsBestByItems, IsBlockedByNames}
+use Rattle.flow_core.specs.declared.limits.TheConstants.{MOST_VALUE}
 use Rattle.flow_core.specs.Layout.{network_of}
 use Rattle.flow_core.specs.Solving.{by_size}
 use Rattle.least_cost.specs.declared.outcome.Outcome.{Outcome}
@@ -15,7 +16,7 @@ use Rattle.least_cost.specs.Repair.{IsObeying, IsRepair}
 
 -- The series is the repair, as the flow shows; the total is what it costs, and of that so much is paid for broken bounds.
 -- The items stand in the order of the bounds, one for a bound at most, and none has a greater amount than all weights and
--- prices together and 1 more.
+-- prices together and 1 more. No value is above 10^15 in size, and the total is below 10^27.
 pub record IsRepaired (problem : Problem) (series : List ℤ) (flow : List FlowItem) (all_paid broken_paid : ℤ) : Type 0 where
   pub repair : IsRepair problem series
   pub best : IsBestByItems problem series flow
@@ -23,6 +24,8 @@ pub record IsRepaired (problem : Problem) (series : List ℤ) (flow : List FlowI
   pub paid : broken_paid ≡ pos (paid problem series)
   pub in_order : IsPart (map (λ item. item.name) flow) (names_of problem.bounds)
   pub amounts : AllByRecursion (λ item. item.amount ≤ℤ pos (sum problem.weights + sum (map (λ priced. priced.price) problem.bounds) + 1)) flow
+  pub small_values : AllByRecursion (λ value. unsigned_abs value ≤ MOST_VALUE) series
+  pub small_total : unsigned_abs all_paid < 10 ^ 27
 
 -- The names are those of a cycle of bounds that shows that no series obeys, and none does.
 pub record IsWithoutSeries (problem : Problem) (cycle : List BoundName) : Type 0 where

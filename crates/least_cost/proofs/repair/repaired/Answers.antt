@@ -2,6 +2,9 @@ use Rattle.std.proofs.Common.{◌≡◌, ℕ, ◌+◌, ◌*◌, ◌^◌, ◌≤�
 use Rattle.std.specs.Prelude.{FitsSigned, unsigned_abs}
 use Rattle.std.proofs.lemmas.Int.{ints, to_z-of_z, fits_signed_from_abs}
 use Rattle.screen_model.specs.Cost.{Problem, weighted_change, change, paid, cost}
+use Rattle.std.specs.List.{AllByRecursion}
+use Rattle.flow_core.specs.declared.limits.TheConstants.{MOST_VALUE}
+use Rattle.least_cost.proofs.Lists.{all_drop}
 use Rattle.flow_core.specs.Layout.{FlowNetwork}
 use Rattle.flow_core.specs.State.{NetworkState, value}
 use Rattle.least_cost.specs.Problems.{stated}
@@ -46,10 +49,13 @@ paid_here c = are_paid (stated c.args.problem.now) c.in_ok-series.series c.value
 pub overflow_sub-paid : goal.overflow_sub-paid
 overflow_sub-paid c = (paid_here c).fits
 
+small_here : (c : goal.After-change) → AllByRecursion (λ value. unsigned_abs value ≤ MOST_VALUE) c.in_ok-series.series
+small_here c = subst (λ (series : List ℤ). AllByRecursion (λ value. unsigned_abs value ≤ MOST_VALUE) series) (sym c.in_ok-series.ensures) (all_drop (λ value. unsigned_abs value ≤ MOST_VALUE) 1 c.settle_tight.new.room.distances c.settle_tight.ensures.small)
+
 pub returns-clause-answer : goal.returns-clause-answer
 returns-clause-answer c =
     let read = paid_here c.before in
-    is_repaired c.args.problem.now c.args.net.now c.in_ok-series.series c.in_ok-flow.flow _ _ c.requires.solvable c.requires.network (found_here c.before) c.in_ok-flow.ensures (read.total_read ∙ c.value-total.ensures) read.paid_read
+    is_repaired c.args.problem.now c.args.net.now c.in_ok-series.series c.in_ok-flow.flow _ _ c.requires.solvable c.requires.network (found_here c.before) (small_here c.before) c.in_ok-flow.ensures (read.total_read ∙ c.value-total.ensures) read.paid_read
 
 pub returns-clause-changes : goal.returns-clause-changes
 returns-clause-changes c = λ most few. are_changes c.args.problem.now c.args.net.now c.in_ok-flow.flow most c.changes-changes.result c.requires.network c.in_ok-flow.ensures c.changes-changes.ensures few
