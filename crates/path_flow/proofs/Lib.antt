@@ -1,0 +1,9 @@
+pub mod Expanding
+pub mod Pathing
+pub mod Potentials
+pub mod Saturating
+pub mod Searching
+pub mod Solved
+pub mod Starting
+pub mod Units
+pub mod Views
