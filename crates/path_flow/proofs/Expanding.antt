@@ -11,7 +11,7 @@ use Rattle.node_heap.specs.Keys.{HasLeast}
 use Rattle.path_flow.specs.declared.search.Task.{Task}
 use Rattle.path_flow.specs.declared.search.Label.{Label}
 use Rattle.path_flow.specs.Search.{HasRoom, IsEnd, IsNear, IsReached, IsTree, arc_both_ways, is_odd, label_at, step_length, takes_from, turned}
-use Rattle.path_flow.specs.Reach.{IsKeyed, Reach}
+use Rattle.path_flow.specs.Reach.{HasDistance, IsKeyed, Reach}
 use Rattle.path_flow.specs.Searching.{IsLast, IsSearching, IsSettled, StepsFrom, key_at, nothing_left}
 use Rattle.path_flow.proofs.Searching.{distance_of_key, least_at}
 
@@ -26,7 +26,7 @@ out_again keys node other below out = ⊎_elim
 -- a node that is settled after it was taken out is that node, or was settled before
 settled_before : (reach : Reach) (node other : ℕ) (label : Label) → other ≢ node → IsSettled (record reach { keys = set reach.keys node None }) other label → IsSettled reach other label
 settled_before reach node other label apart settled = record {
-  label = settled.label;
+  is = settled.is;
   out = sym (get_or-set_other reach.keys node other None None apart) ∙ settled.out;
 }
 
@@ -45,7 +45,7 @@ popped net task reach node key label below so_far least is inner =
     record {
       tree = so_far.tree;
       keyed = λ other.
-          let agrees : ℤ → Type 0 = λ k. IfSome (label_at reach.labels other) (λ l. l.distance ≡ k) in
+          let agrees : ℤ → Type 0 = HasDistance (label_at reach.labels other) in
           ⊎_elim
           (λ (e : other ≡ node).
           subst (λ (option : Option ℤ). IfSome option agrees) (sym (ap (λ n. get_or (set reach.keys node None) n None) e ∙ get_or-set_same reach.keys node None None below)) tt)
@@ -61,7 +61,7 @@ popped net task reach node key label below so_far least is inner =
           let waited = waits_before reach node third k below waits in
           ⊎_elim
           (λ (e : other ≡ node).
-          let same : l ≡ label = let both = sym settled.label ∙ ap (label_at reach.labels) e ∙ is in cc in
+          let same : l ≡ label = let both = sym settled.is ∙ ap (label_at reach.labels) e ∙ is in cc in
           let far = ap (λ (x : Label). x.distance) same in
           let low = least_at reach.keys key k third least.least waited in
           omega (arith, ints, far, distance, low))
@@ -102,7 +102,7 @@ if_some_more P Q (Some l) more some = more l refl some
 settled_apart : (net : NetworkState) (task : Task) (reach : Reach) (u h x : ℕ) (last label l : Label) → IsLast task reach u last → IsBetter net task reach u last h label → IsSettled reach x l → x ≢ h
 settled_apart net task reach u h x last label l is_last better settled = λ e.
     let low = is_last.farthest x l settled in
-    let high = better.better l (ap (label_at reach.labels) (sym e) ∙ settled.label) in
+    let high = better.better l (ap (label_at reach.labels) (sym e) ∙ settled.is) in
     absurd (omega (arith, ints, low, high, better.distance, better.long))
 
 label_kept : (reach : Reach) (h x : ℕ) (label : Label) → x ≢ h → label_at (set reach.labels h (Some label)) x ≡ label_at reach.labels x
@@ -118,12 +118,12 @@ settled_then net task reach u h x last label l reached better settled =
     let apart : x ≢ h = λ e.
         let here : get_or (set reach.keys h (Some label.distance)) x None ≡ Some label.distance = ap (λ n. get_or (set reach.keys h (Some label.distance)) n None) e ∙ get_or-set_same reach.keys h (Some label.distance) None better.keys in
         absurd (let both = sym here ∙ settled.out in cc) in
-    (apart, record { label = sym (label_kept reach h x label apart) ∙ settled.label; out = sym (key_kept reach h x label.distance apart) ∙ settled.out })
+    (apart, record { is = sym (label_kept reach h x label apart) ∙ settled.is; out = sym (key_kept reach h x label.distance apart) ∙ settled.out })
 
 reached_still : (net : NetworkState) (task : Task) (reach : Reach) (u h x : ℕ) (last label l : Label) (left : ℕ → Bool → Type 0) → IsSearching net task left reach → IsLast task reach u last → IsBetter net task reach u last h label
     → x ≢ task.source → label_at reach.labels x ≡ Some l → IsReached net task.direction reach.labels x l → IsReached net task.direction (set reach.labels h (Some label)) x l
 reached_still net task reach u h x last label l left so_far is_last better inner there is =
-    let settled : IsSettled reach (arc_both_ways net.network l.number).tail is.before = record { label = is.from; out = so_far.settled x l inner there } in
+    let settled : IsSettled reach (arc_both_ways net.network l.number).tail is.before = record { is = is.from; out = so_far.settled x l inner there } in
     let apart = settled_apart net task reach u h (arc_both_ways net.network l.number).tail last label is.before is_last better settled in
     record {
       step = is.step;
@@ -144,7 +144,7 @@ reached_now net task reach u h last label is_last better =
       step = better.step;
       head = better.head;
       before = last;
-      from = ap (label_at (set reach.labels h (Some label))) better.tail ∙ label_kept reach h u label apart ∙ is_last.settled.label;
+      from = ap (label_at (set reach.labels h (Some label))) better.tail ∙ label_kept reach h u label apart ∙ is_last.settled.is;
       hops = better.hops;
       distance = better.distance;
       some = better.some;
@@ -154,7 +154,7 @@ reached_now net task reach u h last label is_last better =
 
 source_apart : (net : NetworkState) (task : Task) (reach : Reach) (u h : ℕ) (last label : Label) (left : ℕ → Bool → Type 0) → IsSearching net task left reach → IsLast task reach u last → IsBetter net task reach u last h label → task.source ≢ h
 source_apart net task reach u h last label left so_far is_last better =
-    settled_apart net task reach u h task.source last label so_far.tree.source is_last better (record { label = so_far.tree.at_source; out = is_last.source })
+    settled_apart net task reach u h task.source last label so_far.tree.source is_last better (record { is = so_far.tree.at_source; out = is_last.source })
 
 tree_lowered : (net : NetworkState) (task : Task) (reach : Reach) (u h : ℕ) (last label : Label) (left : ℕ → Bool → Type 0) → IsSearching net task left reach → IsLast task reach u last → IsBetter net task reach u last h label
     → IsTree net task (set reach.labels h (Some label))
@@ -193,20 +193,20 @@ near_still net task reach u h y last label from long better near = ⊎_elim
     (λ (apart : y ≢ h). record { label = near.label; is = label_kept reach h y label apart ∙ near.is; near = near.near })
     (cases_eq y h)
 
-keyed_still : (reach : Reach) (h x : ℕ) (label : Label) → h < length reach.labels → h < length reach.keys → IfSome (key_at reach x) (λ k. IfSome (label_at reach.labels x) (λ l. l.distance ≡ k))
-    → IfSome (get_or (set reach.keys h (Some label.distance)) x None) (λ k. IfSome (label_at (set reach.labels h (Some label)) x) (λ l. l.distance ≡ k))
+keyed_still : (reach : Reach) (h x : ℕ) (label : Label) → h < length reach.labels → h < length reach.keys → IfSome (key_at reach x) (HasDistance (label_at reach.labels x))
+    → IfSome (get_or (set reach.keys h (Some label.distance)) x None) (HasDistance (label_at (set reach.labels h (Some label)) x))
 keyed_still reach h x label labels keys before =
     let new = set reach.labels h (Some label) in
     ⊎_elim
     (λ (e : x ≡ h).
     let key : get_or (set reach.keys h (Some label.distance)) x None ≡ Some label.distance = ap (λ n. get_or (set reach.keys h (Some label.distance)) n None) e ∙ get_or-set_same reach.keys h (Some label.distance) None keys in
     let here : label_at new x ≡ Some label = ap (label_at new) e ∙ get_or-set_same reach.labels h (Some label) None labels in
-    let agrees : IfSome (label_at new x) (λ l. l.distance ≡ label.distance) = subst (λ (option : Option Label). IfSome option (λ l. l.distance ≡ label.distance)) (sym here) refl in
-    subst (λ (option : Option ℤ). IfSome option (λ k. IfSome (label_at new x) (λ l. l.distance ≡ k))) (sym key) agrees)
+    let agrees : HasDistance (label_at new x) label.distance = subst (λ (option : Option Label). HasDistance option label.distance) (sym here) refl in
+    subst (λ (option : Option ℤ). IfSome option (HasDistance (label_at new x))) (sym key) agrees)
     (λ (apart : x ≢ h).
-    let kept : IfSome (key_at reach x) (λ k. IfSome (label_at new x) (λ l. l.distance ≡ k)) =
-    subst (λ (option : Option Label). IfSome (key_at reach x) (λ k. IfSome option (λ l. l.distance ≡ k))) (sym (label_kept reach h x label apart)) before in
-    subst (λ (option : Option ℤ). IfSome option (λ k. IfSome (label_at new x) (λ l. l.distance ≡ k))) (sym (key_kept reach h x label.distance apart)) kept)
+    let kept : IfSome (key_at reach x) (HasDistance (label_at new x)) =
+    subst (λ (option : Option Label). IfSome (key_at reach x) (HasDistance option)) (sym (label_kept reach h x label apart)) before in
+    subst (λ (option : Option ℤ). IfSome option (HasDistance (label_at new x))) (sym (key_kept reach h x label.distance apart)) kept)
     (cases_eq x h)
 
 -- the search goes on with the new label
@@ -226,7 +226,7 @@ lowered_keeps net task reach u h last label reached left so_far is_last better =
       let before : label_at reach.labels x ≡ Some l = sym (label_kept reach h x label apart) ∙ there in
       let is : IsReached net task.direction reach.labels x l = subst (λ (option : Option Label). IfSome option (IsReached net task.direction reach.labels x)) before (so_far.tree.reached x inner) in
       let out = so_far.settled x l inner before in
-      let tail_apart = settled_apart net task reach u h (arc_both_ways net.network l.number).tail last label is.before is_last better (record { label = is.from; out = out }) in
+      let tail_apart = settled_apart net task reach u h (arc_both_ways net.network l.number).tail last label is.before is_last better (record { is = is.from; out = out }) in
       key_kept reach h (arc_both_ways net.network l.number).tail label.distance tail_apart ∙ out)
       (cases_eq x h);
   closed = λ arc back step from settled.
@@ -258,7 +258,7 @@ pub last_stays : (net : NetworkState) (task : Task) (reach : Reach) (u h : ℕ) 
 last_stays net task reach u h last label reached left so_far is_last better =
     let apart = settled_apart net task reach u h u last label last is_last better is_last.settled in
     record {
-      settled = record { label = label_kept reach h u label apart ∙ is_last.settled.label; out = key_kept reach h u label.distance apart ∙ is_last.settled.out };
+      settled = record { is = label_kept reach h u label apart ∙ is_last.settled.is; out = key_kept reach h u label.distance apart ∙ is_last.settled.out };
       farthest = λ x l settled. is_last.farthest x l (settled_then net task reach u h x last label l reached better settled).1;
       source = key_kept reach h task.source label.distance (source_apart net task reach u h last label left so_far is_last better) ∙ is_last.source;
     }

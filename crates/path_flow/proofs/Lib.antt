@@ -1,8 +1,10 @@
 pub mod Expanding
 pub mod Pathing
-pub mod Potentials
+pub mod Pigeonhole
+pub mod Reaching
 pub mod Saturating
 pub mod Searching
+pub mod Shifting
 pub mod Solved
 pub mod Starting
 pub mod Units

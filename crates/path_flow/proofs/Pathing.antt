@@ -4,6 +4,7 @@ use Rattle.std.proofs.lemmas.Int.{ints}
 use Rattle.std.proofs.lemmas.Bool.{cases_eq}
 use Rattle.std.proofs.lemmas.List.{length-set}
 use Rattle.std.proofs.Math.IntN.{*ℤ-zero, *ℤ-one}
+use lib.IntN.{one}
 use Rattle.bound_graph.specs.declared.arc.Arc.{Arc}
 use Rattle.bound_graph.specs.Values.{value_of}
 use Rattle.flow_core.specs.Layout.{FlowNetwork, arcs_of, arc_numbered, nodes_of}
@@ -21,6 +22,7 @@ use Rattle.path_flow.specs.Flow.{amount_if, IsPushed}
 -- ---- one push
 
 times_if : (z : ℤ) (b : Bool) → z *ℤ one_if b ≡ amount_if b z
+unfolding one
 times_if z true = *ℤ-one z
 times_if z false = *ℤ-zero z
 

@@ -16,12 +16,12 @@ use Rattle.path_flow.specs.declared.search.Direction.TheVariants.{Forwards, Back
 use Rattle.path_flow.specs.declared.search.Task.{Task}
 use Rattle.path_flow.specs.declared.search.Label.{Label}
 use Rattle.path_flow.specs.Search.{HasRoom, IsEnd, IsFound, IsNear, label_at, step_length, takes_from, turned}
-use Rattle.path_flow.specs.Reach.{Reach}
+use Rattle.path_flow.specs.Reach.{HasDistance, Reach}
 use Rattle.path_flow.specs.Searching.{AreFree, IsLast, IsSearching, IsSettled, StepsFrom, key_at, nothing_left}
 
 -- ---- keys
 
-least_at : (keys : List (Option ℤ)) (key other : ℤ) (node : ℕ) → All (λ option. IfSome option (λ z. key ≤ℤ z)) keys → get_or keys node None ≡ Some other → key ≤ℤ other
+pub least_at : (keys : List (Option ℤ)) (key other : ℤ) (node : ℕ) → All (λ option. IfSome option (λ z. key ≤ℤ z)) keys → get_or keys node None ≡ Some other → key ≤ℤ other
 least_at keys key other node least is = ⊎_elim
     (λ (inside : node < length keys).
     subst (λ (option : Option ℤ). IfSome option (λ z. key ≤ℤ z)) is (All-get_or (λ option. IfSome option (λ z. key ≤ℤ z)) keys node None inside least))
@@ -30,7 +30,7 @@ least_at keys key other node least is = ⊎_elim
 
 none_is : (option : Option ℤ) → IsNone option → option ≡ None
 none_is None none = refl
-none_is (Some key) none = absurd none
+none_is (Some key) none = absurd cc
 
 none_at : (keys : List (Option ℤ)) (node : ℕ) → All IsNone keys → get_or keys node None ≡ None
 none_at keys node none = ⊎_elim
@@ -44,10 +44,10 @@ near_or_waiting : {P : Type 0} (option : Option ℤ) → (option ≡ None → P)
 near_or_waiting None none some = none refl
 near_or_waiting (Some key) none some = some key refl
 
-distance_of_key : (reach : Reach) (node : ℕ) (key : ℤ) (label : Label) → IfSome (key_at reach node) (λ k. IfSome (label_at reach.labels node) (λ l. l.distance ≡ k)) → key_at reach node ≡ Some key → label_at reach.labels node ≡ Some label → label.distance ≡ key
+pub distance_of_key : (reach : Reach) (node : ℕ) (key : ℤ) (label : Label) → IfSome (key_at reach node) (HasDistance (label_at reach.labels node)) → key_at reach node ≡ Some key → label_at reach.labels node ≡ Some label → label.distance ≡ key
 distance_of_key reach node key label keyed waits is =
-    let inner : IfSome (label_at reach.labels node) (λ l. l.distance ≡ key) = subst (λ (option : Option ℤ). IfSome option (λ k. IfSome (label_at reach.labels node) (λ l. l.distance ≡ k))) waits keyed in
-    subst (λ (option : Option Label). IfSome option (λ l. l.distance ≡ key)) is inner
+    let inner : HasDistance (label_at reach.labels node) key = subst (λ (option : Option ℤ). IfSome option (HasDistance (label_at reach.labels node))) waits keyed in
+    subst (λ (option : Option Label). HasDistance option key) is inner
 
 pub found : (net : NetworkState) (task : Task) (reach : Reach) (node : ℕ) (key : ℤ) (label : Label) → IsSearching net task nothing_left reach → HasLeast reach.keys node key → label_at reach.labels node ≡ Some label → IsEnd net task node → IsFound net task reach.labels node
 found net task reach node key label so_far least is ends =
@@ -61,7 +61,7 @@ found net task reach node key label so_far least is ends =
         each = λ arc back step from at_tail nearer.
             let tail = (turned back (arc_numbered net.network arc)).tail in
             near_or_waiting (key_at reach tail)
-            (λ out. ⊎_elim absurd (λ near. near) (so_far.closed arc back step from (record { label = at_tail; out = out })))
+            (λ out. ⊎_elim absurd (λ near. near) (so_far.closed arc back step from (record { is = at_tail; out = out })))
             (λ other waits.
             let low = least_at reach.keys key other tail least.least waits in
             let same = distance_of_key reach tail other from (so_far.keyed tail) waits at_tail in
@@ -116,7 +116,7 @@ step_from_zero net Backwards node free range = step_against net (record { tail =
 labelled_next : (net : NetworkState) (task : Task) (reach : Reach) (tail head : ℕ) (from : Label) → IsSearching net task nothing_left reach → ((node : ℕ) → key_at reach node ≡ None) → HasStep net task.direction tail head
     → label_at reach.labels tail ≡ Some from → (label : Label) × (label_at reach.labels head ≡ Some label)
 labelled_next net task reach tail head from so_far none step is =
-    let settled : IsSettled reach (turned step.back (arc_numbered net.network step.arc)).tail from = record { label = ap (label_at reach.labels) step.at_tail ∙ is; out = none (turned step.back (arc_numbered net.network step.arc)).tail } in
+    let settled : IsSettled reach (turned step.back (arc_numbered net.network step.arc)).tail from = record { is = ap (label_at reach.labels) step.at_tail ∙ is; out = none (turned step.back (arc_numbered net.network step.arc)).tail } in
     let near = ⊎_elim absurd (λ there. there) (so_far.closed step.arc step.back step.room from settled) in
     (near.label, ap (label_at reach.labels) (sym step.at_head) ∙ near.is)
 
@@ -138,4 +138,4 @@ pub some_waits : (net : NetworkState) (task : Task) (reach : Reach) (end : ℕ) 
 some_waits net task reach end layout free reading inside below so_far is_end none =
     let out : (node : ℕ) → key_at reach node ≡ None = λ node. none_at reach.keys node none in
     let labelled = all_labelled net task reach end layout free reading inside below so_far out in
-    so_far.ends end labelled.0 (record { label = labelled.1; out = out end }) is_end
+    so_far.ends end labelled.0 (record { is = labelled.1; out = out end }) is_end

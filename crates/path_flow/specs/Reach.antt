@@ -31,16 +31,21 @@ lowered reach node label =
     else reach
 
 -- What holds of the room of searches: the nodes that have a label are those that were reached, each once.
-pub record IsReach (count room : ℕ) (reach : Reach) : Type 0 where
+pub record IsReach (count long : ℕ) (reach : Reach) : Type 0 where
   pub keyed : length reach.keys ≡ length reach.labels
-  pub room : room ≡ length reach.labels
+  pub room : long ≡ length reach.labels
   pub few : length reach.labels < 2 ^ 32
-  pub within : count ≤ room
+  pub within : count ≤ long
   pub nodes : AllByRecursion (λ node. node < length reach.labels) reach.reached
   pub distinct : Distinct reach.reached
   pub labelled : (node : ℕ) → IfSome (label_at reach.labels node) (λ label. Contains reach.reached node)
   pub fresh : (node : ℕ) → label_at reach.labels node ≡ None → Contains reach.reached node → ⊥
 
+-- the node is labelled with this distance
+abbrev pub HasDistance : Option Label → ℤ → Type 0
+HasDistance None key = ⊥
+HasDistance (Some label) key = label.distance ≡ key
+
 -- Each key in the heap is the distance of its node's label.
 abbrev pub IsKeyed : Reach → Type 0
-IsKeyed reach = (node : ℕ) → IfSome (get_or reach.keys node None) (λ key. IfSome (label_at reach.labels node) (λ label. label.distance ≡ key))
+IsKeyed reach = (node : ℕ) → IfSome (get_or reach.keys node None) (HasDistance (label_at reach.labels node))

@@ -13,7 +13,7 @@ key_at reach node = get_or reach.keys node None
 
 -- The node has its last label: it came out of the heap.
 pub record IsSettled (reach : Reach) (node : ℕ) (label : Label) : Type 0 where
-  pub label : label_at reach.labels node ≡ Some label
+  pub is : label_at reach.labels node ≡ Some label
   pub out : key_at reach node ≡ None
 
 -- Over each step with room from a settled node, but for those that are left, the node after it is near; no settled node lies

@@ -1,5 +1,6 @@
 //! Shortest paths by reduced costs from a reading to the first end.
-ghost use Rattle.std.specs.Prelude.{◌≡◌, ◌≤◌, ◌<◌, ◌*◌, ◌/◌, ◌↔◌, ℕ, ℤ, length, slice_set, All, IsTrue, IsNone, None, Some, MatchOption, IfOk, IfSome, Contains};
+ghost use Rattle.std.specs.Prelude.{◌≡◌, ◌≤◌, ◌<◌, ◌*◌, ◌/◌, ◌↔◌, ℕ, ℤ, length, replicate, slice_set, All, IsTrue, IsNone, None, Some, MatchOption, IfOk, IfSome, Contains};
+ghost use Rattle.std.specs.List.{AllByRecursion};
 ghost use Rattle.bound_graph.specs.Graph.{leaving};
 ghost use Rattle.flow_core.specs.Layout.{arcs_of, nodes_of};
 ghost use Rattle.flow_core.specs.State.{IsNetwork};
@@ -102,9 +103,7 @@ impl Labels {
         ensures { self.new ≡ nothing_reached (length self.old.labels) }
     {
         self.heap.clear();
-        for i in 0..self.count {
-            self.labels[self.reached[i as usize] as usize] = None;
-        }
+        take_labels(&mut self.labels, &self.reached[..self.count as usize]);
         self.count = 0;
     }
 
@@ -136,6 +135,17 @@ impl Labels {
             Some((node, _key)) => Some(node),
             None => None,
         }
+    }
+}
+
+/// Takes their labels from all nodes, which are those that were reached.
+fn take_labels(labels: &mut Vec<Option<Label>>, reached: &[u32])
+    requires nodes { AllByRecursion (λ node. node < length labels.old.items) reached.now }
+    requires labelled { (node : ℕ) → IfSome (label_at labels.old.items node) (λ label. Contains reached.now node) }
+    ensures { labels.new.items ≡ replicate (length labels.old.items) None }
+{
+    for node in reached {
+        labels[*node as usize] = None;
     }
 }
 

@@ -1,5 +1,6 @@
-use Rattle.std.proofs.Common.{◌≡◌, ◌<◌, ◌≤◌, ℕ, List, count_by, not, eqb, length, get_or, ap, sym, ◌∙◌, subst, arith}
+use Rattle.std.proofs.Common.{ℤ, pos, ◌≤ℤ◌, ◌≡◌, ◌<◌, ◌≤◌, ℕ, List, count_by, not, eqb, length, get_or, ap, sym, ◌∙◌, subst, arith}
 use Rattle.std.proofs.lemmas.List.{take_all}
+use Rattle.path_flow.specs.Steps.{reduced_cost}
 use Rattle.path_flow.specs.Saturation.{IsSaturated}
 use Rattle.flow_core.specs.Layout.{FlowNetwork}
 use Rattle.flow_core.specs.State.{NetworkState}
@@ -21,7 +22,7 @@ loop-bound-preserved c =
     let k = c.loop-bound.bound in
     let step = c.saturate_if_negative.ensures.saturated in
     let below : k < length old.network.bounds = omega (arith, c.loop-bound-test.true, c.loop-bound.auto.bound-end, c.bounds-bound-end.ensures) in
-    let free = λ none. free_cost k old net k was.saturated c.requires.obeys below none in
+    let free : get_or net.network.prices k 1 ≡ 0 → pos 0 ≤ℤ reduced_cost net k = λ none. free_cost k old net k was.saturated c.requires.obeys below none in
     record {
       network = c.saturate_if_negative.ensures.network;
       saturated = one_arc_more old net new k was.saturated step (λ none. free (ap (λ (n : FlowNetwork). get_or n.prices k 1) (sym step.network) ∙ none));
