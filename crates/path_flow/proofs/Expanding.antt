@@ -71,6 +71,30 @@ popped net task reach node key label below so_far least is inner =
           (λ (e : other ≡ node). inner (subst (IsEnd net task) e is_end))
           (λ (apart : other ≢ node). so_far.ends other l (settled_before reach node other l apart settled) is_end)
           (cases_eq other node);
+      started = λ other l apart there. out_again reach.keys node task.source below (so_far.started other l apart there);
+    }
+
+-- and it was settled last
+pub popped_last : (net : NetworkState) (task : Task) (reach : Reach) (node : ℕ) (key : ℤ) (label : Label) → node < length reach.keys → IsSearching net task nothing_left reach → HasLeast reach.keys node key
+    → label_at reach.labels node ≡ Some label → IsLast task (record reach { keys = set reach.keys node None }) node label
+popped_last net task reach node key label below so_far least is =
+    let distance = distance_of_key reach node key label (so_far.keyed node) least.has is in
+    let gone : get_or (set reach.keys node None) node None ≡ None = get_or-set_same reach.keys node None None below in
+    record {
+      settled = record { is = is; out = gone };
+      farthest = λ other l settled. ⊎_elim
+          (λ (e : other ≡ node).
+          let same : l ≡ label = let both = sym settled.is ∙ ap (label_at reach.labels) e ∙ is in cc in
+          let far = ap (λ (x : Label). x.distance) same in
+          omega (arith, ints, far))
+          (λ (apart : other ≢ node).
+          let low = so_far.order other l node key (settled_before reach node other l apart settled) least.has in
+          omega (arith, ints, low, distance))
+          (cases_eq other node);
+      source = ⊎_elim
+          (λ (e : node ≡ task.source). ap (λ n. get_or (set reach.keys node None) n None) (sym e) ∙ gone)
+          (λ (apart : node ≢ task.source). out_again reach.keys node task.source below (so_far.started node label apart is))
+          (cases_eq node task.source);
     }
 
 -- ---- a node is reached on a shorter way
@@ -99,7 +123,7 @@ if_some_more P Q None more some = tt
 if_some_more P Q (Some l) more some = more l refl some
 
 -- what is settled is another node
-settled_apart : (net : NetworkState) (task : Task) (reach : Reach) (u h x : ℕ) (last label l : Label) → IsLast task reach u last → IsBetter net task reach u last h label → IsSettled reach x l → x ≢ h
+pub settled_apart : (net : NetworkState) (task : Task) (reach : Reach) (u h x : ℕ) (last label l : Label) → IsLast task reach u last → IsBetter net task reach u last h label → IsSettled reach x l → x ≢ h
 settled_apart net task reach u h x last label l is_last better settled = λ e.
     let low = is_last.farthest x l settled in
     let high = better.better l (ap (label_at reach.labels) (sym e) ∙ settled.is) in
@@ -167,6 +191,8 @@ tree_lowered net task reach u h last label left so_far is_last better =
       at_source = label_kept reach h task.source label (source_apart net task reach u h last label left so_far is_last better) ∙ tree.at_source;
       nearest = tree.nearest;
       no_hop = tree.no_hop;
+      some = tree.some;
+      room = tree.room;
       reached = λ x inner. ⊎_elim
           (λ (e : x ≡ h).
           let here : label_at new h ≡ Some label = get_or-set_same reach.labels h (Some label) None better.labels in
@@ -250,6 +276,7 @@ lowered_keeps net task reach u h last label reached left so_far is_last better =
   ends = λ x l settled is_end.
       let before = settled_then net task reach u h x last label l reached better settled in
       so_far.ends x l before.1 is_end;
+  started = λ x l inner there. key_kept reach h task.source label.distance (source_apart net task reach u h last label left so_far is_last better) ∙ is_last.source;
 }
 
 -- and the node that was settled last stays it
@@ -275,4 +302,5 @@ passed net task reach left more so_far each = record {
   closed = λ arc back step from settled. ⊎_elim (λ still. each arc back step from settled still) (λ near. inr near) (so_far.closed arc back step from settled);
   order = so_far.order;
   ends = so_far.ends;
+  started = so_far.started;
 }

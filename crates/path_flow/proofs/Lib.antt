@@ -1,4 +1,6 @@
 pub mod Expanding
+pub mod Lengths
+pub mod Numbers
 pub mod Pathing
 pub mod Pigeonhole
 pub mod Reaching
@@ -7,5 +9,7 @@ pub mod Searching
 pub mod Shifting
 pub mod Solved
 pub mod Starting
+pub mod Stepping
+pub mod Trees
 pub mod Units
 pub mod Views

@@ -1,5 +1,6 @@
 -- Potentials shifted after a search: no residual arc has a negative reduced cost, and the path to the end is tight.
 use Rattle.std.proofs.Common.{◌≡◌, ℕ, ◌+◌, ◌<◌, ◌≤◌, Bool, true, false, ℤ, pos, negsuc, zero, suc, ◌+ℤ◌, ◌-ℤ◌, ◌≤ℤ◌, ◌<ℤ◌, ◌/◌, List, Option, None, Some, IfSome, length, refl, sym, ap, ◌∙◌, subst, arith}
+use Rattle.std.specs.Prelude.{unsigned_abs}
 use Rattle.std.proofs.lemmas.Int.{ints, by_lt_z}
 use Rattle.bound_graph.specs.declared.arc.Arc.{Arc}
 use Rattle.bound_graph.specs.Arcs.{IsArc}
@@ -98,7 +99,7 @@ length_shifted : (direction : Direction) (old new : List ℤ) (arc : Arc) (at_ta
 length_shifted Forwards old new arc at_tail at_head base tail head = omega (arith, ints, tail, head)
 length_shifted Backwards old new arc at_tail at_head base tail head = omega (arith, ints, tail, head)
 
-turned_valid : (nodes : ℕ) (back : Bool) (arc : Arc) → IsArc nodes arc → IsArc nodes (turned back arc)
+pub turned_valid : (nodes : ℕ) (back : Bool) (arc : Arc) → IsArc nodes arc → IsArc nodes (turned back arc)
 turned_valid nodes true arc valid = reversed_valid nodes arc valid
 turned_valid nodes false arc valid = valid
 
@@ -169,5 +170,7 @@ rooted_after net new task labels tree changes = record {
   source = tree.source;
   at_source = tree.at_source;
   no_hop = tree.no_hop;
+  some = tree.some;
+  room = tree.room ∙ ap (λ (l : List ℤ). pos (unsigned_abs (value_of l task.source))) (sym changes.excesses);
   linked = λ node inner. linked_if net new task.direction labels node (label_at labels node) changes (tree.reached node inner);
 }

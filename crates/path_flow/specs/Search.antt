@@ -1,5 +1,6 @@
 -- For proofs: searches over residual arcs, the paths that they find, and the potentials after them.
-use Rattle.std.specs.Prelude.{◌≡◌, ◌≢◌, ◌⊎◌, ℕ, ◌+◌, ◌*◌, ◌/◌, ◌%◌, ◌<◌, ◌≤◌, ◌==◌, not, Bool, true, false, if◌then◌else◌, ℤ, pos, negsuc, ◌+ℤ◌, ◌-ℤ◌, ◌≤ℤ◌, ◌<ℤ◌, List, length, get_or, Option, Some, None, IfSome}
+use Rattle.std.specs.Prelude.{◌≡◌, ◌≢◌, ◌⊎◌, ℕ, ◌+◌, ◌*◌, ◌/◌, ◌%◌, ◌<◌, ◌≤◌, ◌==◌, not, Bool, true, false, if◌then◌else◌, ℤ, pos, negsuc, ◌+ℤ◌, ◌-ℤ◌, ◌≤ℤ◌, ◌<ℤ◌, List, length, get_or, Option, Some, None, IfSome, unsigned_abs}
+use Rattle.std.specs.Int.{int_min}
 use Rattle.bound_graph.specs.declared.arc.Arc.{Arc}
 use Rattle.bound_graph.specs.Values.{value_of}
 use Rattle.flow_core.specs.Layout.{FlowNetwork, arcs_of, arc_numbered, nodes_of}
@@ -57,6 +58,18 @@ IsEnd net task node = ((node ≡ 0) × (task.ends_at_zero ≡ true)) ⊎ IsOppos
 
 -- ---- labels
 
+abbrev pub number_of : ℕ → Bool → ℕ
+number_of arc back = if back then 2 * arc + 1 else 2 * arc
+
+-- how a node is reached by the step of a number, from a node that was reached so
+abbrev pub label_after : NetworkState → Direction → Label → ℕ → Label
+label_after net direction last number = record {
+  distance = last.distance +ℤ step_length net direction (number / 2) (is_odd number);
+  number = number;
+  hops = last.hops + 1;
+  room = int_min last.room (residual_of net (number / 2) (takes_from direction (is_odd number)));
+}
+
 abbrev pub label_at : List (Option Label) → ℕ → Option Label
 label_at labels node = get_or labels node None
 
@@ -79,6 +92,8 @@ pub record IsTree (net : NetworkState) (task : Task) (labels : List (Option Labe
   pub at_source : label_at labels task.source ≡ Some source
   pub nearest : source.distance ≡ pos 0
   pub no_hop : source.hops ≡ 0
+  pub some : pos 1 ≤ℤ source.room
+  pub room : source.room ≡ pos (unsigned_abs (value_of net.excesses task.source))
   pub reached : (node : ℕ) → node ≢ task.source → IfSome (label_at labels node) (IsReached net task.direction labels node)
 
 -- A node was reached by the step of its label's number, whatever the potentials are.
@@ -98,6 +113,8 @@ pub record IsRooted (net : NetworkState) (task : Task) (labels : List (Option La
   pub source : Label
   pub at_source : label_at labels task.source ≡ Some source
   pub no_hop : source.hops ≡ 0
+  pub some : pos 1 ≤ℤ source.room
+  pub room : source.room ≡ pos (unsigned_abs (value_of net.excesses task.source))
   pub linked : (node : ℕ) → node ≢ task.source → IfSome (label_at labels node) (IsLinked net task.direction labels node)
 
 -- the node at the other end is labelled, and lies no farther than the step is long

@@ -1,5 +1,5 @@
 //! Shortest paths by reduced costs from a reading to the first end.
-ghost use Rattle.std.specs.Prelude.{◌≡◌, ◌≤◌, ◌<◌, ◌*◌, ◌/◌, ◌↔◌, ℕ, ℤ, length, replicate, slice_set, All, IsTrue, IsNone, None, Some, MatchOption, IfOk, IfSome, Contains};
+ghost use Rattle.std.specs.Prelude.{◌≡◌, ◌≤◌, ◌<◌, ◌*◌, ◌/◌, ◌^◌, ◌↔◌, ℕ, ℤ, pos, ◌-ℤ◌, unsigned_abs, length, replicate, slice_set, All, IsTrue, IsNone, None, Some, MatchOption, IfOk, IfSome, Contains};
 ghost use Rattle.std.specs.List.{AllByRecursion};
 ghost use Rattle.bound_graph.specs.Graph.{leaving};
 ghost use Rattle.flow_core.specs.Layout.{arcs_of, nodes_of};
@@ -7,8 +7,8 @@ ghost use Rattle.flow_core.specs.State.{IsNetwork};
 ghost use Rattle.node_heap.specs.Keys.{HasLeast};
 ghost use Rattle.path_flow.specs.Reach.{IsKeyed, is_better, lowered, nothing_reached};
 ghost use Rattle.path_flow.specs.Saturation.{HasNoNegatives};
-ghost use Rattle.path_flow.specs.Search.{HasRoom, IsEnd, IsFound, arc_both_ways, is_odd, label_at, step_length, takes_from};
-ghost use Rattle.path_flow.specs.Searching.{AreFree};
+ghost use Rattle.path_flow.specs.Search.{HasRoom, IsEnd, IsFound, arc_both_ways, is_odd, label_after, label_at, step_length, takes_from};
+ghost use Rattle.path_flow.specs.Searching.{AreFree, IsLast, IsSearching, StepsFrom, nothing_left, open_nodes};
 
 use crate::saturate::{reduced_cost, size};
 use flow_core::Network;
@@ -85,7 +85,8 @@ impl Labels {
     /// The label of a node, if it was reached.
     pub(crate) fn label(&self, node: u32) -> Option<Label>
         requires { node < length self.now.labels }
-        ensures { result ≡ label_at self.now.labels node }
+        ensures label { result ≡ label_at self.now.labels node }
+        ensures size { length self.now.keys ≡ length self.now.labels }
     {
         self.labels[node as usize]
     }
@@ -183,7 +184,7 @@ pub(crate) fn search(net: &Network, task: Task, labels: &mut Labels) -> Option<u
         if is_end(net, task, node) {
             return Some(node);
         }
-        expand(net, task.direction, node, labels);
+        expand(net, task, node, labels);
     }
     None
 }
@@ -202,38 +203,64 @@ pub(crate) fn is_end(net: &Network, task: Task, node: u32) -> bool
     }
 }
 
-/// Reaches the nodes after this one.
-fn expand(net: &Network, direction: Direction, node: u32, labels: &mut Labels) {
-    if let Some(label) = labels.label(node) {
+/// Reaches the nodes after this one, which was settled last.
+fn expand(net: &Network, task: Task, node: u32, labels: &mut Labels)
+    requires network { IsNetwork net.now }
+    requires optimal { HasNoNegatives net.now }
+    requires node { node < nodes_of net.now.network }
+    requires searching { IsSearching net.now task (StepsFrom net.now node) labels.old }
+    requires last { (label : Label) × IsLast task labels.old node label }
+    ensures searching { IsSearching net.now task nothing_left labels.new }
+    ensures counted { open_nodes labels.new.labels labels.new.keys ≡ open_nodes labels.old.labels labels.old.keys }
+{
+    if let Some(last) = labels.label(node) {
         for number in net.out_arcs(node) {
-            if let Some(length) = length_if_room(net, direction, *number) {
-                let residual = net.residual(*number / 2, is_back(*number, direction));
-                labels.lower(
-                    node_after(net, *number),
-                    Label {
-                        distance: label.distance + length,
-                        number: *number,
-                        hops: label.hops + 1,
-                        room: label.room.min(residual),
-                    },
-                );
-            }
+            reach_over(net, task.direction, last, *number, labels);
         }
     }
 }
 
-/// How long the step over the arc or reverse of a number is, if flow can move over it.
-fn length_if_room(net: &Network, direction: Direction, number: u32) -> Option<i128>
+/// Reaches the node after one that was reached in this way, by the arc or reverse of a number, if flow can move over it.
+fn reach_over(net: &Network, direction: Direction, last: Label, number: u32, labels: &mut Labels)
     requires network { IsNetwork net.now }
     requires number { number / 2 < length (arcs_of net.now.network) }
-    ensures { MatchOption result (HasRoom net.now direction (number / 2) (is_odd number) → ⊥)
-        (λ long. HasRoom net.now direction (number / 2) (is_odd number) × (long ≡ step_length net.now direction (number / 2) (is_odd number))) }
+    requires near { unsigned_abs last.distance ≤ 10 ^ 30 }
+    requires few { last.hops < 2 ^ 31 }
+    requires size { length labels.old.labels ≡ nodes_of net.now.network }
+    requires keyed { IsKeyed labels.old }
+    ensures none { (HasRoom net.now direction (number / 2) (is_odd number) → ⊥) → labels.new ≡ labels.old }
+    ensures some { HasRoom net.now direction (number / 2) (is_odd number)
+        → labels.new ≡ lowered labels.old (arc_both_ways net.now.network number).head (label_after net.now direction last number) }
 {
-    if net.residual(number / 2, is_back(number, direction)) <= 0 {
-        return None;
+    let residual = net.residual(number / 2, is_back(number, direction));
+    if residual > 0 {
+        let label = Label {
+            distance: last.distance + step_length(net, direction, number),
+            number,
+            hops: last.hops + 1,
+            room: last.room.min(residual),
+        };
+        labels.lower(node_after(net, number), label);
     }
+}
+
+/// How long the step over the arc or reverse of a number is: the reduced cost of what flow would move over.
+fn step_length(net: &Network, direction: Direction, number: u32) -> i128
+    requires network { IsNetwork net.now }
+    requires number { number / 2 < length (arcs_of net.now.network) }
+    ensures long { result ≡ step_length net.now direction (number / 2) (is_odd number) }
+    ensures size { unsigned_abs result ≤ 6 * 10 ^ 15 }
+{
     let cost = reduced_cost(net, number / 2);
-    Some(if is_back(number, direction) { 0 - cost } else { cost })
+    if is_back(number, direction) { minus(cost) } else { cost }
+}
+
+/// A number negated.
+fn minus(number: i128) -> i128
+    requires { unsigned_abs number ≤ 6 * 10 ^ 15 }
+    ensures { result ≡ pos 0 -ℤ number }
+{
+    0 - number
 }
 
 /// Whether a step over the arc or reverse of a number takes from its arc's flow.
