@@ -1,8 +1,10 @@
+pub mod Beginning
 pub mod Expanding
 pub mod Lengths
 pub mod Numbers
 pub mod Pathing
 pub mod Pigeonhole
+pub mod Popping
 pub mod Reaching
 pub mod Saturating
 pub mod Searching

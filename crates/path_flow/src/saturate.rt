@@ -158,6 +158,9 @@ fn units_at_readings(net: &Network) -> i64 {
 }
 
 /// A number without its sign.
-pub(crate) fn size(number: i64) -> i64 {
+pub(crate) fn size(number: i64) -> i64
+    requires { unsigned_abs number < 2 ^ 62 }
+    ensures { result ≡ pos (unsigned_abs number) }
+{
     if number < 0 { 0 - number } else { number }
 }

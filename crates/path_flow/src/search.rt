@@ -1,7 +1,8 @@
 //! Shortest paths by reduced costs from a reading to the first end.
-ghost use Rattle.std.specs.Prelude.{◌≡◌, ◌≤◌, ◌<◌, ◌*◌, ◌/◌, ◌^◌, ◌↔◌, ℕ, ℤ, pos, ◌-ℤ◌, unsigned_abs, length, replicate, slice_set, All, IsTrue, IsNone, None, Some, MatchOption, IfOk, IfSome, Contains};
+ghost use Rattle.std.specs.Prelude.{◌≡◌, ◌≢◌, ◌≤◌, ◌<◌, ◌*◌, ◌/◌, ◌^◌, ◌↔◌, ℕ, ℤ, pos, ◌-ℤ◌, unsigned_abs, length, replicate, slice_set, All, IsTrue, IsNone, None, Some, MatchOption, IfOk, IfSome, Contains};
 ghost use Rattle.std.specs.List.{AllByRecursion};
 ghost use Rattle.bound_graph.specs.Graph.{leaving};
+ghost use Rattle.bound_graph.specs.Values.{value_of};
 ghost use Rattle.flow_core.specs.Layout.{arcs_of, nodes_of};
 ghost use Rattle.flow_core.specs.State.{IsNetwork};
 ghost use Rattle.node_heap.specs.Keys.{HasLeast};
@@ -128,6 +129,7 @@ impl Labels {
     /// Takes a nearest node of those that wait out of the heap.
     fn pop_nearest(&mut self) -> Option<u32>
         ensures empty { IsNone result ↔ All IsNone self.old.keys }
+        ensures size { length self.old.keys ≡ length self.old.labels }
         ensures nearest { IfSome result (λ node. (key : ℤ) × HasLeast self.old.keys node key) }
         ensures taken { IfSome result (λ node. self.new ≡ record self.old { keys = slice_set self.old.keys node None }) }
         ensures unchanged { IsNone result → self.new ≡ self.old }
@@ -168,6 +170,7 @@ pub(crate) fn search(net: &Network, task: Task, labels: &mut Labels) -> Option<u
     requires reading { 1 ≤ task.source }
     requires source { task.source < nodes_of net.now.network }
     requires fresh { labels.old ≡ nothing_reached (nodes_of net.now.network) }
+    requires some { value_of net.now.excesses task.source ≢ pos 0 }
     requires end { (end : ℕ) × (end < nodes_of net.now.network) × IsEnd net.now task end }
     ensures { MatchOption result ⊥ (λ end. (end < nodes_of net.now.network) × IsFound net.now task labels.new.labels end) }
 {
