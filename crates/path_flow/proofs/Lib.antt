@@ -1,6 +1,7 @@
 pub mod Beginning
 pub mod Expanding
 pub mod Lengths
+pub mod Moving
 pub mod Numbers
 pub mod Pathing
 pub mod Pigeonhole
@@ -12,6 +13,7 @@ pub mod Shifting
 pub mod Solved
 pub mod Starting
 pub mod Stepping
+pub mod Tightening
 pub mod Trees
 pub mod Units
 pub mod Views

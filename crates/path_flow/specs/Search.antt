@@ -1,5 +1,5 @@
 -- For proofs: searches over residual arcs, the paths that they find, and the potentials after them.
-use Rattle.std.specs.Prelude.{◌≡◌, ◌≢◌, ◌⊎◌, ℕ, ◌+◌, ◌*◌, ◌/◌, ◌%◌, ◌<◌, ◌≤◌, ◌==◌, not, Bool, true, false, if◌then◌else◌, ℤ, pos, negsuc, ◌+ℤ◌, ◌-ℤ◌, ◌≤ℤ◌, ◌<ℤ◌, List, length, get_or, Option, Some, None, IfSome, unsigned_abs}
+use Rattle.std.specs.Prelude.{◌≡◌, ◌≢◌, ◌⊎◌, ℕ, ◌+◌, ◌*◌, ◌/◌, ◌%◌, ◌^◌, ◌<◌, ◌≤◌, ◌==◌, not, Bool, true, false, if◌then◌else◌, ℤ, pos, negsuc, ◌+ℤ◌, ◌-ℤ◌, ◌≤ℤ◌, ◌<ℤ◌, List, length, get_or, Option, Some, None, IfSome, unsigned_abs}
 use Rattle.std.specs.Int.{int_min}
 use Rattle.bound_graph.specs.declared.arc.Arc.{Arc}
 use Rattle.bound_graph.specs.Values.{value_of}
@@ -148,8 +148,14 @@ abbrev pub nearer : ℤ → Option Label → ℤ
 nearer far None = pos 0
 nearer far (Some label) = positive_part (far -ℤ label.distance)
 
--- The potential of each node fell by how much nearer than the end it lies, or rose where the search went backwards; each as
--- seen from node 0.
+-- The potential of a node after a search: less by how much nearer than the end the node lies, or more where the search went
+-- backwards; as seen from node 0.
+abbrev pub potential_after : Direction → List (Option Label) → ℤ → List ℤ → ℕ → ℤ
+potential_after direction labels far old node = value_of old node -ℤ signed direction (nearer far (label_at labels node) -ℤ nearer far (label_at labels 0))
+
 pub record IsShifted (direction : Direction) (labels : List (Option Label)) (far : ℤ) (nodes : ℕ) (old new : List ℤ) : Type 0 where
-  pub each : (node : ℕ) → node < nodes
-      → value_of new node ≡ value_of old node -ℤ signed direction (nearer far (label_at labels node) -ℤ nearer far (label_at labels 0))
+  pub each : (node : ℕ) → node < nodes → value_of new node ≡ potential_after direction labels far old node
+
+-- the distances are small enough to be added
+abbrev pub AreSmall : List (Option Label) → Type 0
+AreSmall labels = (node : ℕ) → IfSome (label_at labels node) (λ label. unsigned_abs label.distance ≤ 10 ^ 30)

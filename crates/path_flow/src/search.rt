@@ -1,6 +1,7 @@
 //! Shortest paths by reduced costs from a reading to the first end.
 ghost use Rattle.std.specs.Prelude.{◌≡◌, ◌≢◌, ◌≤◌, ◌<◌, ◌*◌, ◌/◌, ◌^◌, ◌↔◌, ℕ, ℤ, pos, ◌-ℤ◌, unsigned_abs, length, replicate, slice_set, All, IsTrue, IsNone, None, Some, MatchOption, IfOk, IfSome, Contains};
 ghost use Rattle.std.specs.List.{AllByRecursion};
+ghost use Rattle.words.specs.Lists.{Distinct};
 ghost use Rattle.bound_graph.specs.Graph.{leaving};
 ghost use Rattle.bound_graph.specs.Values.{value_of};
 ghost use Rattle.flow_core.specs.Layout.{arcs_of, nodes_of};
@@ -95,6 +96,8 @@ impl Labels {
     /// The nodes that were reached.
     pub(crate) fn reached(&self) -> &[u32]
         ensures reached { result.now ≡ self.now.reached }
+        ensures nodes { AllByRecursion (λ node. node < length self.now.labels) self.now.reached }
+        ensures distinct { Distinct self.now.reached }
         ensures labelled { (node : ℕ) → IfSome (label_at self.now.labels node) (λ label. Contains self.now.reached node) }
     {
         &self.reached[..self.count as usize]
