@@ -14,6 +14,7 @@ pub mod Solved
 pub mod Starting
 pub mod Stepping
 pub mod Tightening
+pub mod Tracing
 pub mod Trees
 pub mod Units
 pub mod Views

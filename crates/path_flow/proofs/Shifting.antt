@@ -145,9 +145,10 @@ shifted_tight net new direction labels far arc back from to layout below same sh
 
 -- ---- the path after the shift
 
-linked_if : (net new : NetworkState) (direction : Direction) (labels : List (Option Label)) (node : ℕ) (option : Option Label) → ChangesPotentials net new → IfSome option (IsReached net direction labels node) → IfSome option (IsLinked new direction labels node)
-linked_if net new direction labels node None changes reached = tt
-linked_if net new direction labels node (Some label) changes reached =
+linked_if : (net new : NetworkState) (direction : Direction) (labels : List (Option Label)) (node : ℕ) (option : Option Label) → ((k : ℕ) → k < length (arcs_of net.network) → HasNoNegative net k) → ChangesPotentials net new → IfSome option (IsReached net direction labels node) → IfSome option (IsLinked new direction labels node)
+linked_if net new direction labels node None all changes reached = tt
+linked_if net new direction labels node (Some label) all changes reached =
+    let long = lengths_not_negative net direction (label.number / 2) (is_odd label.number) all reached.step in
     let arc = label.number / 2 in
     let takes = takes_from direction (is_odd label.number) in
     let ends : arc_both_ways new.network label.number ≡ arc_both_ways net.network label.number = ap (λ n. arc_both_ways n label.number) changes.network in
@@ -158,19 +159,20 @@ linked_if net new direction labels node (Some label) changes reached =
       before = reached.before;
       from = ap (λ (a : Arc). label_at labels a.tail) ends ∙ reached.from;
       hops = reached.hops;
+      no_farther = omega (arith, ints, long, reached.distance);
       some = reached.some;
       residual = subst (λ (z : ℤ). label.room ≤ℤ z) (sym same) reached.residual;
       no_more = reached.no_more;
     }
 
 -- the labels still lead back to the source
-pub rooted_after : (net new : NetworkState) (task : Task) (labels : List (Option Label)) → IsTree net task labels → ChangesPotentials net new → IsRooted new task labels
-rooted_after net new task labels tree changes = record {
+pub rooted_after : (net new : NetworkState) (task : Task) (labels : List (Option Label)) → ((k : ℕ) → k < length (arcs_of net.network) → HasNoNegative net k) → IsTree net task labels → ChangesPotentials net new → IsRooted new task labels
+rooted_after net new task labels all tree changes = record {
   size = tree.size ∙ ap nodes_of (sym changes.network);
   source = tree.source;
   at_source = tree.at_source;
   no_hop = tree.no_hop;
   some = tree.some;
   room = tree.room ∙ ap (λ (l : List ℤ). pos (unsigned_abs (value_of l task.source))) (sym changes.excesses);
-  linked = λ node inner. linked_if net new task.direction labels node (label_at labels node) changes (tree.reached node inner);
+  linked = λ node inner. linked_if net new task.direction labels node (label_at labels node) all changes (tree.reached node inner);
 }

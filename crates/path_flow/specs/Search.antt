@@ -103,6 +103,7 @@ pub record IsLinked (net : NetworkState) (direction : Direction) (labels : List 
   pub before : Label
   pub from : label_at labels (arc_both_ways net.network label.number).tail ≡ Some before
   pub hops : label.hops ≡ before.hops + 1
+  pub no_farther : before.distance ≤ℤ label.distance
   pub some : pos 1 ≤ℤ label.room
   pub residual : label.room ≤ℤ residual_of net (label.number / 2) (takes_from direction (is_odd label.number))
   pub no_more : label.room ≤ℤ before.room

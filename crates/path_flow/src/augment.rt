@@ -1,7 +1,8 @@
 //! Flow moved along a shortest path.
-ghost use Rattle.std.specs.Prelude.{◌<◌, pos, ◌≤ℤ◌, IfSome};
+ghost use Rattle.std.specs.Prelude.{◌≡◌, ◌<◌, pos, ◌≤ℤ◌, Some};
 ghost use Rattle.flow_core.specs.Layout.{nodes_of};
 ghost use Rattle.flow_core.specs.State.{IsNetwork};
+ghost use Rattle.path_flow.specs.declared.search.Label.{Label};
 ghost use Rattle.path_flow.specs.Flow.{IsPushed, IsTightPath};
 ghost use Rattle.path_flow.specs.Search.{IsRooted, label_at};
 
@@ -15,7 +16,7 @@ pub(crate) fn push_along(net: &mut Network, task: Task, labels: &Labels, end: u3
     requires end { end < nodes_of net.old.network }
     requires tight { IsTightPath net.old task labels.now.labels end }
     requires some { pos 1 ≤ℤ amount }
-    requires room { IfSome (label_at labels.now.labels end) (λ label. amount ≤ℤ label.room) }
+    requires room { (label : Label) × (label_at labels.now.labels end ≡ Some label) × (amount ≤ℤ label.room) }
     ensures pushed { IsPushed task labels.now.labels end task.source amount net.old net.new }
     ensures network { IsNetwork net.new }
 {
