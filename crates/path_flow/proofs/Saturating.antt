@@ -1,5 +1,5 @@
 -- Arcs saturated, one after the other.
-use Rattle.std.proofs.Common.{◌≡◌, ◌≢◌, ℕ, zero, suc, ◌+◌, ◌*◌, ◌-◌, ◌<◌, ◌≤◌, min, true, false, eqb, ℤ, pos, negsuc, ◌+ℤ◌, ◌-ℤ◌, ◌≤ℤ◌, ◌<ℤ◌, List, length, get_or, set, take, count_by, not, refl, sym, ap, ◌∙◌, subst, ⊎_elim, arith, get_or-set_same, get_or-set_other, zero-add}
+use Rattle.std.proofs.Common.{◌≡◌, ◌≢◌, ℕ, zero, suc, ◌+◌, ◌*◌, ◌-◌, ◌<◌, ◌≤◌, min, true, false, eqb, ℤ, pos, negsuc, ◌+ℤ◌, ◌-ℤ◌, ◌≤ℤ◌, ◌<ℤ◌, List, length, get_or, set, take, sum, count_by, cond, not, ◌/◌, refl, sym, ap, ◌∙◌, subst, ⊎_elim, arith, get_or-set_same, get_or-set_other, zero-add}
 use Rattle.std.proofs.lemmas.Int.{ints}
 use Rattle.std.proofs.lemmas.Bool.{cases_eq, cases_lt, eqb-true, eq-eqb, ne_eqb}
 use Rattle.std.proofs.lemmas.List.{get_or_append_left, get_or-append-add, get_or_past, take_all}
@@ -11,7 +11,13 @@ use Rattle.flow_core.specs.Layout.{FlowNetwork, IsLayout, no_arc, nodes_of, arcs
 use Rattle.flow_core.specs.State.{NetworkState, IsNetwork, flow_on, residual_of, added, pushed}
 use Rattle.flow_core.specs.Views.{bare_arcs}
 use Rattle.flow_core.proofs.Readings.{arc_to_at, arc_from_at}
-use Rattle.flow_core.proofs.Sizes.{length-flows, capacity_of_bound}
+use Rattle.flow_core.proofs.Sizes.{arc_valid, length-flows, capacity_of_bound, capacity_of_reading}
+use Rattle.words.specs.Lists.{total}
+use Rattle.words.proofs.Sums.{total-set}
+use Rattle.std.proofs.lemmas.List.{length-set}
+use Rattle.std.proofs.lemmas.List.Sums.{sum_by-set, sum_by_more}
+use Rattle.path_flow.specs.Flow.{excess_units, most_units, positive_size}
+use Rattle.path_flow.proofs.Units.{positive_less, positive_more}
 use Rattle.path_flow.specs.Steps.{reduced_cost}
 use Rattle.path_flow.specs.Saturation.{HasNoNegative, Saturates, IsSaturated}
 use Rattle.path_flow.specs.Searching.{AreFree}
@@ -33,6 +39,8 @@ kept net arc done = record {
   done = done;
   changes = omega arith;
   kept = λ cost. refl;
+  units = omega arith;
+  whole = refl;
 }
 
 -- an arc on which nothing flows and that has no room
@@ -41,6 +49,35 @@ full_done net arc empty full = record {
   ahead = λ room. absurd (omega (arith, ints, room, full));
   back = λ some. absurd (omega (arith, ints, some, empty));
 }
+
+-- a push takes from one node what it brings to another
+whole_pushed : (net : NetworkState) (arc : ℕ) (amount : ℤ) → IsNetwork net → arc < length (arcs_of net.network) → total (pushed net arc false amount).excesses ≡ total net.excesses
+whole_pushed net arc amount is below =
+    let ends = arc_numbered net.network arc in
+    let valid = arc_valid net.network arc is.layout below in
+    let taken = added net.excesses ends.tail (pos 0 -ℤ amount) in
+    let long = length-set net.excesses ends.tail (value_of net.excesses ends.tail +ℤ (pos 0 -ℤ amount)) in
+    let first = total-set net.excesses ends.tail (value_of net.excesses ends.tail +ℤ (pos 0 -ℤ amount)) (omega (arith, valid.tail, is.excess_each)) in
+    let second = total-set taken ends.head (value_of taken ends.head +ℤ amount) (omega (arith, valid.head, is.excess_each, long)) in
+    omega (arith, ints, first, second)
+
+units_raised : (net : NetworkState) (arc amount : ℕ) → IsNetwork net → arc < length (arcs_of net.network) → excess_units (pushed net arc false (pos amount)) ≤ excess_units net + amount
+units_raised net arc amount is below =
+    let ends = arc_numbered net.network arc in
+    let valid = arc_valid net.network arc is.layout below in
+    let less = value_of net.excesses ends.tail +ℤ (pos 0 -ℤ pos amount) in
+    let taken = set net.excesses ends.tail less in
+    let long = length-set net.excesses ends.tail less in
+    let same : less ≡ value_of net.excesses ends.tail -ℤ pos amount = omega (arith, ints) in
+    let fewer = ap positive_size same in
+    let first = sum_by-set positive_size net.excesses ends.tail less (pos 0) (omega (arith, valid.tail, is.excess_each)) in
+    let second = sum_by-set positive_size taken ends.head (value_of taken ends.head +ℤ pos amount) (pos 0) (omega (arith, valid.head, is.excess_each, long)) in
+    omega (arith, first, second, fewer, positive_less (value_of net.excesses ends.tail) amount, positive_more (value_of taken ends.head) amount)
+
+units_filled : (net : NetworkState) (arc : ℕ) → IsNetwork net → arc < length (arcs_of net.network) → flow_on net arc ≡ pos 0 → excess_units (pushed net arc false (residual_of net arc false)) ≤ excess_units net + capacity_numbered net.network arc
+units_filled net arc is below empty =
+    let all : residual_of net arc false ≡ pos (capacity_numbered net.network arc) = omega (arith, ints, empty) in
+    subst (λ (z : ℤ). excess_units (pushed net arc false z) ≤ excess_units net + capacity_numbered net.network arc) (sym all) (units_raised net arc (capacity_numbered net.network arc) is below)
 
 -- an empty arc of negative reduced cost that is filled
 pub filled : (net new : NetworkState) (arc : ℕ) → IsNetwork net → arc < length (arcs_of net.network) → flow_on net arc ≡ pos 0 → reduced_cost net arc <ℤ pos 0
@@ -59,6 +96,8 @@ filled net new arc is below empty negative push =
       };
       changes = omega arith;
       kept = λ cost. absurd (omega (arith, ints, cost, negative));
+      units = units_filled net arc is below empty;
+      whole = whole_pushed net arc all is below;
     })
 
 -- ---- one arc after the other
@@ -186,3 +225,36 @@ all_free net is empty k free = ⊎_elim
     omega (arith, ints, capacity, none))
     (λ (past : length net.network.prices ≤ k). absurd (past_bounds net k past free))
     (cases_lt k (length net.network.prices))
+
+-- ---- the units that are saturated
+
+priced_capacity : (unpriced price : ℕ) → price ≢ 0 → capacity_at_price unpriced price ≡ price
+priced_capacity unpriced price some = ap (λ b. cond b unpriced price) (ne_eqb price 0 some)
+
+-- one bound more: at most its price, and nothing where it has none
+pub bound_units : (old net new : NetworkState) (k : ℕ) → IsNetwork old → net.network ≡ old.network → k < length old.network.bounds → Saturates k net new → (get_or old.network.prices k 1 ≡ 0 → new ≡ net)
+    → excess_units net ≤ sum (take k old.network.prices) → excess_units new ≤ sum (take (k + 1) old.network.prices)
+bound_units old net new k is same below step kept so_far =
+    let prices = old.network.prices in
+    let inside : k < length prices = omega (arith, below, is.layout.priced) in
+    let more = sum_by_more (λ (x : ℕ). x) prices k 1 inside in
+    let capacity = ap (λ (n : FlowNetwork). capacity_numbered n k) same ∙ capacity_of_bound old.network k inside in
+    ⊎_elim
+    (λ (free : get_or prices k 1 ≡ 0).
+    let units = ap excess_units (kept free) in
+    omega (arith, units, so_far, more))
+    (λ (priced : get_or prices k 1 ≢ 0).
+    let price = priced_capacity (unpriced_capacity old.network) (get_or prices k 1) priced in
+    omega (arith, step.units, capacity, price, so_far, more))
+    (cases_eq (get_or prices k 1) 0)
+
+-- both arcs of a reading have its weight as capacity
+pub weight_of : (network : FlowNetwork) (r : ℕ) → IsLayout network → capacity_numbered network (length network.bounds + 2 * r) ≡ get_or network.weights r 0
+weight_of network r layout =
+    let here : (length network.bounds + 2 * r - length network.prices) / 2 ≡ r = omega (arith, layout.priced) in
+    capacity_of_reading network (length network.bounds + 2 * r) (omega (arith, layout.priced)) ∙ ap (λ k. get_or network.weights k 0) here
+
+pub second_weight_of : (network : FlowNetwork) (r : ℕ) → IsLayout network → capacity_numbered network (length network.bounds + 2 * r + 1) ≡ get_or network.weights r 0
+second_weight_of network r layout =
+    let here : (length network.bounds + 2 * r + 1 - length network.prices) / 2 ≡ r = omega (arith, layout.priced) in
+    capacity_of_reading network (length network.bounds + 2 * r + 1) (omega (arith, layout.priced)) ∙ ap (λ k. get_or network.weights k 0) here

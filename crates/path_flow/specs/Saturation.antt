@@ -1,7 +1,9 @@
 -- For proofs: arcs of negative reduced cost, and arcs that are saturated.
 use Rattle.std.specs.Prelude.{◌≡◌, ◌≢◌, ℕ, ◌+◌, ◌<◌, ◌≤◌, ℤ, pos, ◌≤ℤ◌, length, get_or, false}
-use Rattle.flow_core.specs.Layout.{arcs_of}
+use Rattle.words.specs.Lists.{total}
+use Rattle.flow_core.specs.Layout.{arcs_of, capacity_numbered}
 use Rattle.flow_core.specs.State.{NetworkState, flow_on, residual_of}
+use Rattle.path_flow.specs.Flow.{excess_units}
 use Rattle.path_flow.specs.Steps.{reduced_cost}
 
 -- neither the arc nor its reverse is a residual arc of negative reduced cost
@@ -21,6 +23,8 @@ pub record Saturates (arc : ℕ) (old new : NetworkState) : Type 0 where
   pub done : HasNoNegative new arc
   pub changes : new.changes ≤ old.changes + 1
   pub kept : pos 0 ≤ℤ reduced_cost old arc → new ≡ old
+  pub units : excess_units new ≤ excess_units old + capacity_numbered old.network arc
+  pub whole : total new.excesses ≡ total old.excesses
 
 -- The arcs below a count are saturated where their reduced cost is negative; on the others, and on bounds without a price,
 -- nothing flows.

@@ -1,12 +1,13 @@
 //! The arcs of negative reduced cost, saturated.
-ghost use Rattle.std.specs.Prelude.{◌≡◌, ◌≤◌, ◌<◌, ◌+◌, ◌*◌, ◌^◌, ◌↔◌, ℕ, pos, ◌+ℤ◌, ◌-ℤ◌, ◌<ℤ◌, length, unsigned_abs, IsTrue};
-ghost use Rattle.bound_graph.specs.Values.{RespectsArcs};
+ghost use Rattle.std.specs.Prelude.{◌≡◌, ◌≤◌, ◌<◌, ◌+◌, ◌*◌, ◌^◌, ◌↔◌, ℕ, pos, ◌+ℤ◌, ◌-ℤ◌, ◌<ℤ◌, get_or, length, sum, unsigned_abs, IsTrue};
+ghost use Rattle.words.specs.Lists.{total};
+ghost use Rattle.bound_graph.specs.Values.{RespectsArcs, value_of};
 ghost use Rattle.flow_core.specs.Layout.{arcs_of, nodes_of, priced_count};
 ghost use Rattle.flow_core.specs.State.{IsNetwork, flow_on};
 ghost use Rattle.flow_core.specs.Views.{bare_arcs};
+ghost use Rattle.path_flow.specs.Flow.{excess_units, most_units, units_left};
 ghost use Rattle.path_flow.specs.Steps.{ChangesFlows, reduced_cost};
 ghost use Rattle.path_flow.specs.Saturation.{HasNoNegatives, IsSaturated, Saturates};
-ghost use Rattle.path_flow.specs.Searching.{AreFree};
 
 use bound_graph::ArcList;
 use flow_core::Network;
@@ -17,10 +18,13 @@ pub(crate) fn saturate(net: &mut Network)
     requires empty { (arc : ℕ) → flow_on net.old arc ≡ pos 0 }
     requires obeys { RespectsArcs net.old.potentials (bare_arcs net.old) }
     requires unchanged { net.old.changes ≡ 0 }
+    requires balanced { excess_units net.old ≡ 0 }
     ensures stays { ChangesFlows net.old net.new }
     ensures network { IsNetwork net.new }
     ensures optimal { HasNoNegatives net.new }
-    ensures free { AreFree net.new }
+    ensures free { (arc : ℕ) → get_or net.new.network.prices arc 1 ≡ 0 → flow_on net.new arc ≡ pos 0 }
+    ensures units { excess_units net.new ≤ most_units net.new.network }
+    ensures whole { total net.new.excesses ≡ total net.old.excesses }
     ensures changes { net.new.changes ≤ length net.old.network.values + priced_count net.old.network }
 {
     saturate_bounds(net);
@@ -33,8 +37,11 @@ fn saturate_bounds(net: &mut Network)
     requires empty { (arc : ℕ) → flow_on net.old arc ≡ pos 0 }
     requires obeys { RespectsArcs net.old.potentials (bare_arcs net.old) }
     requires unchanged { net.old.changes ≡ 0 }
+    requires balanced { excess_units net.old ≡ 0 }
     ensures saturated { IsSaturated (length net.old.network.bounds) net.old net.new }
     ensures network { IsNetwork net.new }
+    ensures units { excess_units net.new ≤ sum net.old.network.prices }
+    ensures whole { total net.new.excesses ≡ total net.old.excesses }
     ensures changes { net.new.changes ≤ priced_count net.old.network }
 {
     for bound in 0..net.bounds() {
@@ -48,22 +55,27 @@ fn saturate_readings(net: &mut Network)
     requires saturated { IsSaturated (length net.old.network.bounds) net.old net.old }
     ensures saturated { IsSaturated (length (arcs_of net.old.network)) net.old net.new }
     ensures network { IsNetwork net.new }
+    ensures units { excess_units net.new ≤ excess_units net.old + sum net.old.network.weights }
+    ensures whole { total net.new.excesses ≡ total net.old.excesses }
     ensures changes { net.new.changes ≤ net.old.changes + length net.old.network.values }
 {
     for reading in 0..net.nodes() - 1 {
-        saturate_one_of_two(net, net.bounds() + 2 * reading);
+        saturate_one_of_two(net, reading);
     }
 }
 
 /// Saturates that of the two arcs of a reading whose reduced cost is negative.
-fn saturate_one_of_two(net: &mut Network, first: u32)
+fn saturate_one_of_two(net: &mut Network, reading: u32)
     requires network { IsNetwork net.old }
-    requires saturated { IsSaturated first net.old net.old }
-    requires reading { (reading : ℕ) × (first ≡ length net.old.network.bounds + 2 * reading) × (reading < length net.old.network.values) }
-    ensures saturated { IsSaturated (first + 2) net.old net.new }
+    requires reading { reading < length net.old.network.values }
+    requires saturated { IsSaturated (length net.old.network.bounds + 2 * reading) net.old net.old }
+    ensures saturated { IsSaturated (length net.old.network.bounds + 2 * reading + 2) net.old net.new }
     ensures network { IsNetwork net.new }
     ensures changes { net.new.changes ≤ net.old.changes + 1 }
+    ensures units { excess_units net.new ≤ excess_units net.old + get_or net.old.network.weights reading 0 }
+    ensures whole { total net.new.excesses ≡ total net.old.excesses }
 {
+    let first = net.bounds() + 2 * reading;
     if is_negative(net, first) {
         saturate_if_negative(net, first);
     } else {

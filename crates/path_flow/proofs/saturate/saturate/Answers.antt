@@ -1,7 +1,8 @@
-use Rattle.std.proofs.Common.{◌<◌, length, sym, ap, ◌∙◌, subst, arith}
+use Rattle.std.proofs.Common.{◌<◌, ◌+◌, ◌≤◌, ◌≡◌, ℤ, pos, sum, get_or, length, sym, ap, ◌∙◌, subst, arith}
 use Rattle.flow_core.specs.Layout.{FlowNetwork, arcs_of}
+use Rattle.path_flow.specs.Flow.{most_units}
 use Rattle.path_flow.specs.Saturation.{IsSaturated}
-use Rattle.path_flow.proofs.Saturating.{rebased, all_free}
+use Rattle.path_flow.proofs.Saturating.{rebased}
 use Rattle.path_flow.proofs.saturate.saturate.Goals as goal
 
 pub saturate_readings-requires-clause-saturated : goal.saturate_readings-requires-clause-saturated
@@ -23,7 +24,18 @@ returns-clause-optimal c =
     λ k below. second.done k (omega (arith, arcs, below))
 
 pub returns-clause-free : goal.returns-clause-free
-returns-clause-free c = all_free c.saturate_readings.new.net c.saturate_readings.ensures.network c.saturate_readings.ensures.saturated.free
+returns-clause-free c = c.saturate_readings.ensures.saturated.free
+
+pub returns-clause-units : goal.returns-clause-units
+returns-clause-units c =
+    let first = c.saturate_bounds.ensures in
+    let second = c.saturate_readings.ensures in
+    let weights = ap (λ (n : FlowNetwork). sum n.weights) first.saturated.network in
+    let most = ap most_units (second.saturated.network ∙ first.saturated.network) in
+    omega (arith, first.units, second.units, weights, most)
+
+pub returns-clause-whole : goal.returns-clause-whole
+returns-clause-whole c = c.saturate_readings.ensures.whole ∙ c.saturate_bounds.ensures.whole
 
 pub returns-clause-changes : goal.returns-clause-changes
 returns-clause-changes c =
