@@ -1,4 +1,6 @@
+pub mod Augmenting
 pub mod Beginning
+pub mod Discharging
 pub mod Expanding
 pub mod Lengths
 pub mod Moving
@@ -13,8 +15,9 @@ pub mod Shifting
 pub mod Solved
 pub mod Starting
 pub mod Stepping
+pub mod Sums
 pub mod Tightening
 pub mod Tracing
 pub mod Trees
-pub mod Units
 pub mod Views
+pub mod Weighing

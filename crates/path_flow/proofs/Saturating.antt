@@ -17,7 +17,7 @@ use Rattle.words.proofs.Sums.{total-set}
 use Rattle.std.proofs.lemmas.List.{length-set}
 use Rattle.std.proofs.lemmas.List.Sums.{sum_by-set, sum_by_more}
 use Rattle.path_flow.specs.Flow.{excess_units, most_units, positive_size}
-use Rattle.path_flow.proofs.Units.{positive_less, positive_more}
+use Rattle.path_flow.proofs.Sums.{positive_less, positive_more}
 use Rattle.path_flow.specs.Steps.{reduced_cost}
 use Rattle.path_flow.specs.Saturation.{HasNoNegative, Saturates, IsSaturated}
 use Rattle.path_flow.specs.Searching.{AreFree}
@@ -193,7 +193,7 @@ opposite net r below =
     let second = ap cost (second_of_reading net.network r below) in
     omega (arith, ints, first, second)
 
-past_bounds : (net : NetworkState) (k : ℕ) → length net.network.prices ≤ k → get_or net.network.prices k 1 ≡ 0 → ⊥
+pub past_bounds : (net : NetworkState) (k : ℕ) → length net.network.prices ≤ k → get_or net.network.prices k 1 ≡ 0 → ⊥
 past_bounds net k past free = absurd (omega (arith, get_or_past net.network.prices k 1 past, free))
 
 -- the first arc of a reading is saturated, or may be, and then the second one
@@ -212,7 +212,7 @@ above_zero (pos zero) test = absurd cc
 above_zero (pos (suc n)) test = omega (arith, ints)
 above_zero (negsuc n) test = absurd cc
 
-zero_price : (unpriced price : ℕ) → price ≡ 0 → capacity_at_price unpriced price ≡ unpriced
+pub zero_price : (unpriced price : ℕ) → price ≡ 0 → capacity_at_price unpriced price ≡ unpriced
 zero_price unpriced zero free = refl
 zero_price unpriced (suc price) free = absurd (omega (arith, free))
 
@@ -228,7 +228,7 @@ all_free net is empty k free = ⊎_elim
 
 -- ---- the units that are saturated
 
-priced_capacity : (unpriced price : ℕ) → price ≢ 0 → capacity_at_price unpriced price ≡ price
+pub priced_capacity : (unpriced price : ℕ) → price ≢ 0 → capacity_at_price unpriced price ≡ price
 priced_capacity unpriced price some = ap (λ b. cond b unpriced price) (ne_eqb price 0 some)
 
 -- one bound more: at most its price, and nothing where it has none

@@ -75,3 +75,20 @@ distance_small net task labels node label network all tree is =
 
 pub hops_small : (net : NetworkState) (task : Task) (labels : List (Option Label)) (node : ℕ) (label : Label) → IsNetwork net → IsTree net task labels → label_at labels node ≡ Some label → label.hops < 2 ^ 31
 hops_small net task labels node label network tree is = omega (arith, hops_few net task labels node label tree is, few_nodes net network)
+
+-- no node was reached with more room than the source has
+room_in : (net : NetworkState) (task : Task) (labels : List (Option Label)) (tree : IsTree net task labels) → (hops node : ℕ) (label : Label) → label_at labels node ≡ Some label → label.hops ≡ hops → label.room ≤ℤ tree.source.room
+room_in net task labels tree zero node label is hops = ⊎_elim
+    (λ (same : node ≡ task.source). let all = ap (λ (l : Label). l.room) (at_source net task labels node label tree same is) in omega (arith, ints, all))
+    (λ (inner : node ≢ task.source). let reached = reached_at net task labels node label tree inner is in absurd (omega (arith, hops, reached.hops)))
+    (cases_eq node task.source)
+room_in net task labels tree (suc n) node label is hops = ⊎_elim
+    (λ (same : node ≡ task.source). let all = ap (λ (l : Label). l.room) (at_source net task labels node label tree same is) in omega (arith, ints, all))
+    (λ (inner : node ≢ task.source).
+    let reached = reached_at net task labels node label tree inner is in
+    let before = room_in net task labels tree n (arc_both_ways net.network label.number).tail reached.before reached.from (omega (arith, hops, reached.hops)) in
+    omega (arith, ints, before, reached.no_more))
+    (cases_eq node task.source)
+
+pub room_within : (net : NetworkState) (task : Task) (labels : List (Option Label)) (node : ℕ) (label : Label) → IsTree net task labels → label_at labels node ≡ Some label → label.room ≤ℤ pos (unsigned_abs (value_of net.excesses task.source))
+room_within net task labels node label tree is = let within = room_in net task labels tree label.hops node label is refl in omega (arith, ints, within, tree.room)

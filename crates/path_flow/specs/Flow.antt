@@ -4,6 +4,8 @@ use Rattle.words.specs.Lists.{total}
 use Rattle.bound_graph.specs.Values.{value_of}
 use Rattle.flow_core.specs.Layout.{FlowNetwork, arcs_of, nodes_of}
 use Rattle.flow_core.specs.State.{NetworkState, flow_on}
+use Rattle.path_flow.specs.declared.search.Direction.{Direction}
+use Rattle.path_flow.specs.declared.search.Direction.TheVariants.{Forwards, Backwards}
 use Rattle.path_flow.specs.declared.search.Task.{Task}
 use Rattle.path_flow.specs.declared.search.Label.{Label}
 use Rattle.path_flow.specs.Steps.{reduced_cost}
@@ -63,17 +65,22 @@ pub record IsAugmented (task : Task) (old new : NetworkState) (gain : ℤ) : Typ
   pub changes : new.changes ≤ old.changes + length old.network.values
   pub gain_is : gain ≡ amount_if (not (end == 0)) (pos amount)
 
--- What is left to be moved: the readings below a node have no excess; a number of units may still be moved, by the spare units
--- more than stand at readings, and where that is fewer, no fewer than the excesses of all nodes; and that is within what
--- may still flow on bounds without a price, and within the bound on changes.
-pub record IsLeft (first net : NetworkState) (spare : ℤ) (node : ℕ) : Type 0 where
-  pub network : net.network ≡ first.network
+-- a source has an excess where flow is moved forwards from it, and a deficit where it is moved backwards
+abbrev pub HasSign : Direction → ℤ → Type 0
+HasSign Forwards excess = pos 0 <ℤ excess
+HasSign Backwards excess = excess <ℤ pos 0
+
+-- What is left to be moved in a network: the readings below a node have no excess; a number of units may still be moved, by the
+-- spare units more than stand at readings, and where that is fewer, no fewer than the excesses of all nodes; and so many
+-- units are within what may still flow on bounds without a price, and within a bound on changes.
+pub record IsLeft (network : FlowNetwork) (bound : ℕ) (net : NetworkState) (spare : ℤ) (node : ℕ) : Type 0 where
+  pub same : net.network ≡ network
   pub budget : ℕ
-  pub most : budget ≤ most_units net.network
+  pub most : budget ≤ most_units network
   pub spare_is : spare ≡ pos budget -ℤ pos (units_left net)
   pub excess : spare <ℤ pos 0 → excess_units net ≤ budget
-  pub free : (arc : ℕ) → get_or net.network.prices arc 1 ≡ 0 → (flow_on net arc +ℤ pos budget) ≤ℤ pos (most_units net.network)
+  pub free : (arc : ℕ) → get_or network.prices arc 1 ≡ 0 → (flow_on net arc +ℤ pos budget) ≤ℤ pos (most_units network)
   pub whole : total net.excesses ≡ pos 0
-  pub few : units_left net ≤ 2 * most_units net.network
-  pub changes : net.changes + length net.network.values * budget ≤ first.changes + length net.network.values * most_units net.network
+  pub few : units_left net ≤ 2 * most_units network
+  pub changes : net.changes + length network.values * budget ≤ bound
   pub done : (x : ℕ) → 1 ≤ x → x < node → value_of net.excesses x ≡ pos 0

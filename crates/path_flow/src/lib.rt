@@ -14,5 +14,6 @@ mod solver;
 mod starts;
 #[cfg(test)]
 mod tests;
+mod units;
 
 pub use solver::PathSolver;

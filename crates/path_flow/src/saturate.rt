@@ -1,11 +1,11 @@
 //! The arcs of negative reduced cost, saturated.
 ghost use Rattle.std.specs.Prelude.{◌≡◌, ◌≤◌, ◌<◌, ◌+◌, ◌*◌, ◌^◌, ◌↔◌, ℕ, pos, ◌+ℤ◌, ◌-ℤ◌, ◌<ℤ◌, get_or, length, sum, unsigned_abs, IsTrue};
 ghost use Rattle.words.specs.Lists.{total};
-ghost use Rattle.bound_graph.specs.Values.{RespectsArcs, value_of};
+ghost use Rattle.bound_graph.specs.Values.{RespectsArcs};
 ghost use Rattle.flow_core.specs.Layout.{arcs_of, nodes_of, priced_count};
 ghost use Rattle.flow_core.specs.State.{IsNetwork, flow_on};
 ghost use Rattle.flow_core.specs.Views.{bare_arcs};
-ghost use Rattle.path_flow.specs.Flow.{excess_units, most_units, units_left};
+ghost use Rattle.path_flow.specs.Flow.{excess_units, most_units};
 ghost use Rattle.path_flow.specs.Steps.{ChangesFlows, reduced_cost};
 ghost use Rattle.path_flow.specs.Saturation.{HasNoNegatives, IsSaturated, Saturates};
 
@@ -132,47 +132,4 @@ fn plus(cost: i64, difference: i128) -> i128
     ensures { result ≡ cost +ℤ difference }
 {
     i128::from(cost) + difference
-}
-
-/// How many units more may be pushed than stand at readings, in excess or deficit.
-///
-/// Weights and prices together are the most units that may be pushed: then bounds without a price never are full.
-pub(crate) fn spare_units(net: &Network) -> i64 {
-    most_units(net) - units_at_readings(net)
-}
-
-/// The sum of all weights and all prices.
-fn most_units(net: &Network) -> i64 {
-    let mut most = 0;
-    for bound in 0..net.bounds() {
-        if net.bound_arcs().arc(2 * bound).is_none() {
-            most += capacity(net, bound);
-        }
-    }
-    for reading in 0..net.nodes() - 1 {
-        most += capacity(net, net.bounds() + 2 * reading);
-    }
-    most
-}
-
-/// The capacity of an arc.
-fn capacity(net: &Network, arc: u32) -> i64 {
-    net.flow(arc) + net.residual(arc, false)
-}
-
-/// The sum of the sizes of the excesses of all readings.
-fn units_at_readings(net: &Network) -> i64 {
-    let mut units = 0;
-    for node in 1..net.nodes() {
-        units += size(net.excess(node));
-    }
-    units
-}
-
-/// A number without its sign.
-pub(crate) fn size(number: i64) -> i64
-    requires { unsigned_abs number < 2 ^ 62 }
-    ensures { result ≡ pos (unsigned_abs number) }
-{
-    if number < 0 { 0 - number } else { number }
 }

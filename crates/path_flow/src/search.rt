@@ -12,7 +12,8 @@ ghost use Rattle.path_flow.specs.Saturation.{HasNoNegatives};
 ghost use Rattle.path_flow.specs.Search.{HasRoom, IsEnd, IsFound, arc_both_ways, is_odd, label_after, label_at, step_length, takes_from};
 ghost use Rattle.path_flow.specs.Searching.{AreFree, IsLast, IsSearching, StepsFrom, nothing_left, open_nodes};
 
-use crate::saturate::{reduced_cost, size};
+use crate::saturate::reduced_cost;
+use crate::units::size;
 use flow_core::Network;
 use node_heap::NodeHeap;
 use std::alloc::{AllocError, Global};

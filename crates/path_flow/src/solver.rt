@@ -9,9 +9,10 @@ ghost use Rattle.path_flow.specs.Searching.{AreFree};
 ghost use Rattle.path_flow.specs.Solver.{last_of, nodes_in};
 
 use crate::discharge::discharge;
-use crate::saturate::{saturate, spare_units};
+use crate::saturate::saturate;
 use crate::search::Labels;
 use crate::starts::first_potentials;
+use crate::units::spare_units;
 use flow_core::{Network, Solved, Solver};
 use neg_cycle::{Room, Settled};
 use std::alloc::{AllocError, Global};
