@@ -1,24 +1,19 @@
 -- The problem of the bounds that are made can be solved.
-use Rattle.std.proofs.Common.{◌≡◌, ℕ, zero, suc, ◌*◌, ◌^◌, ◌<◌, ◌≤◌, ℤ, pos, neg_ℤ, List, [], ◌∷◌, ◌++◌, length, map, get_or, refl, sym, ap, ◌∙◌, subst, arith}
-use Rattle.std.specs.Prelude.{unsigned_abs, flat_map}
+use Rattle.std.proofs.Common.{◌≡◌, ℕ, suc, ◌≤◌, ℤ, neg_ℤ, List, [], ◌∷◌, ◌++◌, length, map, refl, sym, ap, ◌∙◌, subst, arith}
 use Rattle.std.specs.List.{AllByRecursion, Any}
 use Rattle.words.specs.Lists.{Distinct, IsPart}
-use Rattle.words.proofs.Lists.{all_weaker, all_map}
+use Rattle.words.proofs.Lists.{all_weaker}
 use Rattle.words.proofs.Parts.{part_map, part_distinct}
 use Rattle.screen_model.specs.declared.place.Place.{Place}
-use Rattle.screen_model.specs.declared.place.End.{End}
-use Rattle.screen_model.specs.declared.place.End.TheVariants.{Zero, At}
 use Rattle.screen_model.specs.declared.bound.Bound.{Bound}
 use Rattle.screen_model.specs.declared.bound.BoundName.{BoundName}
 use Rattle.screen_model.specs.declared.bound.Side.TheVariants.{Up, Down}
 use Rattle.screen_model.specs.declared.limits.TheConstants.{MOST_READINGS}
 use Rattle.screen_model.specs.Obeys.{Priced, with_prices}
-use Rattle.screen_model.specs.Cost.{Problem}
 use Rattle.screen_model.specs.Names.{names_of}
 use Rattle.screen_model.proofs.Prices.{by_bound}
 use Rattle.fix_point.specs.declared.scale.TheConstants.{MOST_UNITS}
-use Rattle.flow_core.specs.Layout.{HasBound, IsRanged}
-use Rattle.flow_core.specs.declared.limits.TheConstants.{MOST_VALUE}
+use Rattle.flow_core.specs.Layout.{IsRanged}
 use Rattle.rule_file.specs.declared.rules.Rules.{Rules}
 use Rattle.series_csv.specs.File.{TableView}
 use Rattle.series_csv.specs.Readings.{places, values, IsSmall}

@@ -1,17 +1,15 @@
 -- What is answered over the bounds that are made is the answer over all bounds.
-use Rattle.std.proofs.Common.{◌≡◌, ℕ, zero, suc, ◌+◌, ◌≤◌, Bool, true, false, cond, eqb, not, ℤ, pos, ◌≤ℤ◌, List, [], ◌∷◌, length, map, sum, refl, sym, ap, ◌∙◌, subst, arith}
-use Rattle.std.specs.List.{AllByRecursion, filter}
-use Rattle.std.proofs.lemmas.Int.{ints}
+use Rattle.std.proofs.Common.{◌≡◌, ℕ, ◌+◌, Bool, true, false, cond, eqb, not, ℤ, pos, ◌≤ℤ◌, List, [], ◌∷◌, map, sum, refl, sym, ap, ◌∙◌, subst, arith}
+use Rattle.std.specs.List.{AllByRecursion}
 use Rattle.std.proofs.lemmas.Bool.{eqb-true}
 use Rattle.std.proofs.lemmas.List.Sums.{sum_by-cons}
 use Rattle.words.specs.Lists.{Distinct, IsPart, none, kept, left_out}
-use Rattle.words.proofs.Lists.{all_weaker}
 use Rattle.words.proofs.Parts.{part_all, part_map}
 use Rattle.screen_model.specs.declared.bound.Bound.{Bound}
 use Rattle.screen_model.specs.declared.bound.BoundName.{BoundName}
 use Rattle.screen_model.specs.declared.bound.FlowItem.{FlowItem}
-use Rattle.screen_model.specs.Obeys.{Priced, Keeps, Obeys}
-use Rattle.screen_model.specs.Cost.{Problem, paid, cost}
+use Rattle.screen_model.specs.Obeys.{Priced, Keeps}
+use Rattle.screen_model.specs.Cost.{paid}
 use Rattle.screen_model.specs.Names.{names_of, amounts_of, bounds_named}
 use Rattle.screen_model.specs.Parts.{bounds_with_price}
 use Rattle.screen_model.specs.Best.{IsBlocked}

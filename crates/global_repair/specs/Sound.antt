@@ -1,5 +1,5 @@
 -- stand-in until the law stands below
-use Rattle.std.specs.Prelude.{◌≡◌, ◌≤◌, ◌*◌, ◌^◌, ℕ, List, length, unsigned_abs}
+use Rattle.std.specs.Prelude.{◌≡◌, ◌≤◌, ◌*◌, ◌^◌, ℕ, length, unsigned_abs}
 use Rattle.std.specs.List.{AllByRecursion}
 use Rattle.screen_model.specs.Obeys.{HasEnds}
 use Rattle.rule_file.specs.declared.rules.Rules.{Rules}

@@ -1,6 +1,6 @@
 -- The answers to a problem.
-use Rattle.std.proofs.Common.{◌≡◌, ℕ, zero, suc, ◌+◌, ◌*◌, ◌/◌, ◌^◌, ◌<◌, ◌≤◌, ℤ, pos, ◌-ℤ◌, ◌≤ℤ◌, List, [], ◌∷◌, length, map, sum, take, drop, Option, IfSome, Some, refl, sym, ap, ◌∙◌, subst, arith}
-use Rattle.std.specs.Prelude.{slice_get, unsigned_abs}
+use Rattle.std.proofs.Common.{◌≡◌, ℕ, ◌^◌, ◌<◌, ◌≤◌, ℤ, pos, ◌-ℤ◌, ◌≤ℤ◌, List, [], ◌∷◌, length, map, take, Option, IfSome, refl, sym, ap, ◌∙◌, subst, arith}
+use Rattle.std.specs.Prelude.{unsigned_abs}
 use Rattle.std.specs.List.{AllByRecursion, AllZip}
 use Rattle.std.proofs.lemmas.Int.{ints}
 use Rattle.std.proofs.lemmas.List.{length-map, length-take, take_all}
@@ -15,17 +15,16 @@ use Rattle.screen_model.specs.Obeys.{Priced, HasEnds, with_prices}
 use Rattle.screen_model.specs.Cost.{Problem, IsProblem, change, paid, cost}
 use Rattle.screen_model.specs.Flow.{CanCarry}
 use Rattle.screen_model.specs.Names.{names_of, AreNamesIn, bounds_named, items_of, amounts_of, IsFlowOver}
-use Rattle.screen_model.specs.Best.{IsBest, IsBestByItems, IsBlocked, IsBlockedByNames}
+use Rattle.screen_model.specs.Best.{IsBest, IsBlocked}
 use Rattle.screen_model.proofs.Prices.{keep}
 use Rattle.screen_model.proofs.Items.{tell as items_tell}
 use Rattle.screen_model.proofs.Names.{tell as names_tell}
 use Rattle.screen_model.proofs.Cycles.{forbids}
-use Rattle.bound_graph.specs.declared.arc.Arc.{Arc}
 use Rattle.bound_graph.specs.Cycle.{IsNegativeCycle}
 use Rattle.bound_graph.specs.Graph.{arc_of_bound}
 use Rattle.flow_core.specs.declared.limits.TheConstants.{MOST_VALUE}
-use Rattle.flow_core.specs.Layout.{FlowNetwork, network_of, nodes_of, arcs_of, capacities_of, unpriced_capacity, capacity_at_price}
-use Rattle.flow_core.specs.State.{NetworkState, IsNetwork, IsNew, IsWithin, bound_flows, value, is_flowing}
+use Rattle.flow_core.specs.Layout.{FlowNetwork, network_of, arcs_of, capacities_of, unpriced_capacity, capacity_at_price}
+use Rattle.flow_core.specs.State.{NetworkState, IsNetwork, IsWithin, bound_flows, value}
 use Rattle.flow_core.specs.Solving.{by_size, AreAtMost}
 use Rattle.flow_core.specs.Views.{bare_arcs}
 use Rattle.flow_core.specs.Laws.{IsNetworkOf}
@@ -33,11 +32,9 @@ use Rattle.flow_core.proofs.Blocked.{blocked}
 use Rattle.flow_core.proofs.Duals.{split}
 use Rattle.flow_core.proofs.Sizes.{length-flows, length-arcs_of, costs_of, costs_so_far_small}
 use Rattle.least_cost.specs.declared.problem.Problem.{Problem as Lists}
-use Rattle.least_cost.specs.declared.outcome.Outcome.TheVariants.{Repaired, NoSeries}
 use Rattle.least_cost.specs.Answer.{IsRepaired, IsWithoutSeries, AreChanges}
 use Rattle.least_cost.specs.Cycle.{names_on}
-use Rattle.least_cost.specs.Problems.{problem_of, stated, AreSolvable, IsSolvable}
-use Rattle.least_cost.specs.Repair.{IsObeying}
+use Rattle.least_cost.specs.Problems.{stated, IsSolvable}
 use Rattle.least_cost.proofs.Cycles.{names_are}
 use Rattle.least_cost.proofs.Greatest.{IsFound}
 use Rattle.least_cost.proofs.Sizes.{cost_below}

@@ -1,19 +1,18 @@
 -- The greatest values that respect the tight arcs of a solved network are the repair.
-use Rattle.std.proofs.Common.{◌≡◌, ℕ, zero, suc, ◌+◌, ◌<◌, ◌≤◌, Bool, true, eqb, ℤ, pos, neg_ℤ, ◌+ℤ◌, ◌-ℤ◌, ◌≤ℤ◌, List, [], ◌∷◌, ◌++◌, length, map, get_or, drop, replicate, refl, sym, ap, ◌∙◌, subst, arith}
+use Rattle.std.proofs.Common.{◌≡◌, ℕ, zero, suc, ◌<◌, ◌≤◌, true, ℤ, pos, ◌≤ℤ◌, List, [], ◌∷◌, length, get_or, drop, replicate, refl, sym, ap, ◌∙◌, subst, arith}
 use Rattle.std.specs.Prelude.{unsigned_abs}
 use Rattle.std.specs.List.{AllByRecursion}
 use Rattle.std.proofs.lemmas.Int.{ints}
 use Rattle.std.proofs.lemmas.Bool.{eq-eqb}
 use Rattle.std.proofs.lemmas.List.{length-replicate, get_or-replicate, get_or_append_left}
 use Rattle.words.proofs.Products.{within_size, size_within}
-use Rattle.screen_model.specs.Obeys.{Obeys}
 use Rattle.screen_model.specs.Cost.{Problem, IsSeries, cost}
 use Rattle.screen_model.specs.Best.{IsBest}
 use Rattle.screen_model.proofs.Duality.{least}
 use Rattle.bound_graph.specs.declared.arc.Arc.{Arc}
 use Rattle.bound_graph.specs.Values.{value_of, RespectsArc, RespectsArcs}
 use Rattle.neg_cycle.specs.Distances.{AreAtMost, IsGreatest}
-use Rattle.flow_core.specs.Layout.{FlowNetwork, HasUnpriced, HasRange, nodes_of, reading_arcs, arcs_of, arc_numbered, no_arc, is_unpriced}
+use Rattle.flow_core.specs.Layout.{FlowNetwork, nodes_of, reading_arcs, arc_numbered, no_arc, is_unpriced}
 use Rattle.flow_core.specs.State.{NetworkState, IsNetwork, bound_flows, value}
 use Rattle.flow_core.specs.Solving.{IsSolved}
 use Rattle.flow_core.specs.Views.{tight_arcs}
@@ -22,7 +21,7 @@ use Rattle.flow_core.specs.declared.limits.TheConstants.{MOST_VALUE}
 use Rattle.flow_core.proofs.Sizes.{length-arcs_of}
 use Rattle.flow_core.proofs.Optimality.{are_tight, tight_is_best}
 use Rattle.flow_core.proofs.Least.{best_is_tight}
-use Rattle.least_cost.specs.Repair.{IsObeying, IsRepair}
+use Rattle.least_cost.specs.Repair.{IsRepair}
 use Rattle.least_cost.proofs.Lists.{all_at_place, all_by_place}
 
 -- the values from which the greatest are settled
@@ -141,9 +140,9 @@ found problem net distances is solves greatest =
         obeying = record { whole = whole; obeys = best.obeys };
         least = λ other obeying. least problem series other (bound_flows net) obeying.whole best obeying.obeys;
         greatest = λ other obeying same.
-        let other_respects = best_is_tight problem net other is solves obeying.whole obeying.obeys (omega (arith, ints, shown.1, ap pos same)) in
-        let low = greatest.greatest (pos 0 ∷ other) (least_below net other is.network (omega (arith, obeying.whole, counted)) other_respects) other_respects in
-        without_first other series (subst (λ (ds : List ℤ). AreAtMost (pos 0 ∷ other) ds) split low);
+            let other_respects = best_is_tight problem net other is solves obeying.whole obeying.obeys (omega (arith, ints, shown.1, ap pos same)) in
+            let low = greatest.greatest (pos 0 ∷ other) (least_below net other is.network (omega (arith, obeying.whole, counted)) other_respects) other_respects in
+            without_first other series (subst (λ (ds : List ℤ). AreAtMost (pos 0 ∷ other) ds) split low);
       };
       best = best;
       valued = shown.1;

@@ -1,5 +1,5 @@
 -- The items of the flow in a network.
-use Rattle.std.proofs.Common.{◌≡◌, ℕ, zero, suc, ◌+◌, ◌<◌, ◌≤◌, Bool, true, false, eqb, cond, ℤ, pos, negsuc, ◌≤ℤ◌, List, [], ◌∷◌, ◌++◌, length, map, sum, get_or, take, count_by, refl, sym, ap, ◌∙◌, subst, arith}
+use Rattle.std.proofs.Common.{◌≡◌, ℕ, zero, suc, ◌+◌, ◌<◌, ◌≤◌, eqb, cond, ℤ, pos, negsuc, ◌≤ℤ◌, List, [], ◌∷◌, ◌++◌, length, map, sum, get_or, take, count_by, refl, sym, ap, ◌∙◌, subst, arith}
 use Rattle.std.specs.List.{AllByRecursion, AllZip}
 use Rattle.std.proofs.lemmas.Int.{ints}
 use Rattle.std.proofs.lemmas.Bool.{cond-false, ne_eqb}
@@ -19,7 +19,6 @@ with_item_before : (name : BoundName) (amount : ℤ) (items more : List FlowItem
 with_item_before name (pos zero) items more = refl
 with_item_before name (pos (suc n)) items more = refl
 with_item_before name (negsuc n) items more = refl
-
 
 pub items_more : (bounds : List Bound) (prices : List ℕ) (flow : List ℤ) (k : ℕ) (d : Bound) → k < length bounds → k < length flow
     → items_of (take (k + 1) (with_prices bounds prices)) (take (k + 1) flow) ≡ items_of (take k (with_prices bounds prices)) (take k flow) ++ with_item (get_or bounds k d).name (get_or flow k (pos 0)) []

@@ -1,5 +1,5 @@
 -- Lists by the places of their elements.
-use Rattle.std.proofs.Common.{◌≡◌, ℕ, zero, suc, ◌<◌, List, [], ◌∷◌, length, get_or, drop, refl, sym, ap, ◌∙◌, arith}
+use Rattle.std.proofs.Common.{ℕ, zero, suc, ◌<◌, List, [], ◌∷◌, length, get_or, drop, arith}
 use Rattle.std.specs.List.{AllByRecursion}
 
 pub all_at_place : {A : Type 0} (P : A → Type 0) (d : A) (xs : List A) (k : ℕ) → AllByRecursion P xs → k < length xs → P (get_or xs k d)

@@ -1,9 +1,9 @@
 -- A problem has one repair only.
-use Rattle.std.proofs.Common.{◌≡◌, ℕ, zero, suc, ◌<◌, ℤ, pos, ◌≤ℤ◌, List, [], ◌∷◌, length, refl, sym, ap, ◌∙◌, arith}
+use Rattle.std.proofs.Common.{◌≡◌, ℕ, suc, ◌<◌, ℤ, ◌≤ℤ◌, List, [], ◌∷◌, length, refl, arith}
 use Rattle.std.proofs.lemmas.Int.{ints}
 use Rattle.bound_graph.specs.Values.{value_of}
 use Rattle.neg_cycle.specs.Distances.{AreAtMost}
-use Rattle.least_cost.specs.Repair.{IsRepair, RepairIsOne}
+use Rattle.least_cost.specs.Repair.{RepairIsOne}
 
 same_by_place : (xs ys : List ℤ) → length xs ≡ length ys → ((k : ℕ) → k < length ys → value_of xs k ≤ℤ value_of ys k) → ((k : ℕ) → k < length xs → value_of ys k ≤ℤ value_of xs k) → xs ≡ ys
 same_by_place [] [] long low high = refl

@@ -1,13 +1,13 @@
-use Rattle.std.proofs.Common.{◌≡◌, ◌≤◌, ◌∙◌, List, length, sym, ap, subst}
+use Rattle.std.proofs.Common.{◌≡◌, ◌≤◌, ◌∙◌, List, length, ap, subst}
 use Rattle.screen_model.specs.Cost.{Problem}
 use Rattle.screen_model.specs.declared.bound.Bound.{Bound}
 use Rattle.bound_maker.specs.declared.maker.TheConstants.{MOST_BOUNDS}
-use Rattle.bound_maker.specs.Costs.{made_problem, whole_problem}
+use Rattle.bound_maker.specs.Costs.{made_problem}
 use Rattle.least_cost.specs.Answer.{Answers, CountsChanges}
 use Rattle.least_cost.specs.Problems.{problem_of}
 use Rattle.global_repair.specs.Lists.{prices_of}
 use Rattle.global_repair.proofs.Solvable.{solvable, AreLists, lists_solvable, lists_problem}
-use Rattle.global_repair.proofs.Whole.{AreLaws, over_all}
+use Rattle.global_repair.proofs.Whole.{over_all}
 use Rattle.global_repair.proofs.table.repair.Given.{Over}
 use Rattle.global_repair.proofs.table.repair.Goals as goal
 

@@ -1,4 +1,4 @@
-use Rattle.std.proofs.Common.{◌≡◌, ℕ, ◌+◌, ◌<◌, ◌≤◌, ◌++◌, [], ℤ, pos, List, length, get_or, take, refl, sym, ap, ◌∙◌, subst, rules, arith, w64, to_z, of_z}
+use Rattle.std.proofs.Common.{◌≡◌, ℕ, ◌+◌, ◌<◌, ◌≤◌, ◌++◌, [], ℤ, pos, List, length, get_or, take, sym, ap, ◌∙◌, rules, arith, w64, to_z, of_z}
 use Rattle.std.proofs.lemmas.Int.{to_z-of_z}
 use Rattle.std.proofs.lemmas.List.{length-map, length-take, get_or-take, take_all}
 use Rattle.screen_model.specs.declared.bound.Bound.{Bound}
@@ -6,7 +6,6 @@ use Rattle.screen_model.specs.declared.bound.FlowItem.{FlowItem}
 use Rattle.screen_model.specs.Obeys.{Priced, with_prices}
 use Rattle.screen_model.specs.Names.{items_of, with_item}
 use Rattle.screen_model.proofs.Prices.{keep}
-use Rattle.flow_core.specs.Layout.{arcs_of}
 use Rattle.flow_core.specs.State.{NetworkState, IsNetwork, flow_on, bound_flows}
 use Rattle.flow_core.proofs.Sizes.{length-arcs_of, length-flows}
 use Rattle.flow_core.proofs.Optimality.{no_bound}

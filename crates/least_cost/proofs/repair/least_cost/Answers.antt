@@ -1,6 +1,5 @@
-use Rattle.std.proofs.Common.{◌≡◌, ◌∙◌, refl, sym, ap, subst}
+use Rattle.std.proofs.Common.{◌∙◌, sym, ap, subst}
 use Rattle.std.specs.Result.{IfOk}
-use Rattle.flow_core.specs.Layout.{FlowNetwork, network_of}
 use Rattle.flow_core.specs.State.{NetworkState, IsNetwork}
 use Rattle.least_cost.specs.Answer.{CountsChanges}
 use Rattle.least_cost.specs.Problems.{stated}

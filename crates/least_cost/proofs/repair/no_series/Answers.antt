@@ -1,4 +1,4 @@
-use Rattle.least_cost.proofs.Answering.{without_series, is_repaired, are_changes, network_stands}
+use Rattle.least_cost.proofs.Answering.{without_series}
 use Rattle.least_cost.proofs.repair.no_series.Goals as goal
 
 pub returns-clause-answer : goal.returns-clause-answer

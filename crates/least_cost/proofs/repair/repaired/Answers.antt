@@ -1,12 +1,11 @@
-use Rattle.std.proofs.Common.{◌≡◌, ℕ, ◌+◌, ◌*◌, ◌^◌, ◌≤◌, ◌<◌, ℤ, pos, ◌∷◌, ◌-ℤ◌, List, Option, length, map, replicate, drop, refl, sym, ap, ◌∙◌, subst, rules, arith, to_z, of_z}
+use Rattle.std.proofs.Common.{◌≡◌, ◌^◌, ◌≤◌, ℤ, pos, ◌-ℤ◌, List, length, sym, ap, ◌∙◌, subst, rules, arith, to_z, of_z}
 use Rattle.std.specs.Prelude.{FitsSigned, unsigned_abs}
-use Rattle.std.proofs.lemmas.Int.{ints, to_z-of_z, fits_signed_from_abs}
+use Rattle.std.proofs.lemmas.Int.{to_z-of_z, fits_signed_from_abs}
 use Rattle.screen_model.specs.Cost.{Problem, weighted_change, change, paid, cost}
 use Rattle.std.specs.List.{AllByRecursion}
 use Rattle.flow_core.specs.declared.limits.TheConstants.{MOST_VALUE}
 use Rattle.least_cost.proofs.Lists.{all_drop}
 use Rattle.flow_core.specs.Layout.{FlowNetwork}
-use Rattle.flow_core.specs.State.{NetworkState, value}
 use Rattle.least_cost.specs.Problems.{stated}
 use Rattle.least_cost.proofs.Answering.{is_repaired, are_changes, paid_is, bounds_of_network, length_priced, cost_small}
 use Rattle.least_cost.proofs.Greatest.{IsFound, found}

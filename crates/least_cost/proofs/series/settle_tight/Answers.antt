@@ -1,6 +1,5 @@
-use Rattle.std.proofs.Common.{◌≡◌, ℕ, suc, ◌+◌, pos, ◌∷◌, ℤ, List, Option, length, replicate, refl, sym, ap, ◌∙◌, subst, arith}
+use Rattle.std.proofs.Common.{◌≡◌, ℕ, suc, ◌+◌, pos, ℤ, List, length, replicate, refl, ap, ◌∙◌, subst, arith}
 use Rattle.std.specs.Prelude.{slice_set}
-use Rattle.bound_graph.specs.declared.arc.Arc.{Arc}
 use Rattle.bound_graph.specs.Values.{RespectsArcs}
 use Rattle.neg_cycle.specs.Distances.{IsGreatest}
 use Rattle.neg_cycle.specs.declared.sweep.Settled.{Settled}
