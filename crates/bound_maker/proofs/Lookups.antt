@@ -311,7 +311,7 @@ rows_other number n first second rule [] name other = tt
 rows_other number n first second rule (row ∷ rows) name other =
     all_append (λ (b : Bound). b.name ≢ name) (both_sides (between_bound number rule n (col_if_read first row) (col_if_read second row))) (bounds_in_rows (between_bound number rule) first second (suc n) rows)
     (none_of_both (between_bound number rule n (col_if_read first row) (col_if_read second row)) name
-        (λ side b is same. other (ap (λ (m : BoundName). m.col) (sym (row_named number rule n first second row side b is) ∙ same))))
+    (λ side b is same. other (ap (λ (m : BoundName). m.col) (sym (row_named number rule n first second row side b is) ∙ same))))
     (rows_other number (suc n) first second rule rows name other)
 
 each_pair_of : {P : Reading × Reading → Type 0} → ((pair : Reading × Reading) → P pair) → (pairs : List (Reading × Reading)) → AllByRecursion P pairs
@@ -322,7 +322,7 @@ pairs_other : (number d col : ℕ) (rule : Rule) (pairs : List (Reading × Readi
 pairs_other number d col rule pairs name other =
     none_flat (λ (pair : Reading × Reading). both_sides (pair_bound number rule d col pair.0.stamp pair.1.stamp)) name pairs
     (each_pair_of (λ pair. none_of_both (pair_bound number rule d col pair.0.stamp pair.1.stamp) name
-        (λ side b is same. other (ap (λ (n : BoundName). n.col) (sym (of_pair number d col rule pair.0.stamp pair.1.stamp side b is).named ∙ same)))) pairs)
+    (λ side b is same. other (ap (λ (n : BoundName). n.col) (sym (of_pair number d col rule pair.0.stamp pair.1.stamp side b is).named ∙ same)))) pairs)
 
 pub kind_elsewhere : (d : ℕ) (rows : List RowView) (number col second : ℕ) (rule : Rule) (name : BoundName) → col ≢ name.col → HasNone (bounds_of_kind each_pair d rows number col second rule) name
 kind_elsewhere d rows number col second (speed rule) name other = pairs_other number d col (speed rule) (all_pairs (readings_of col rows)) name other
