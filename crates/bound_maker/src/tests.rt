@@ -12,9 +12,6 @@ use std::alloc::Global;
 use std::process::Abort;
 use std::test::Fail;
 
-/// The greatest size of a value.
-const SIZE: i64 = 1_000_000_000_000_000;
-
 const SPEED: &str = "[format]
 decimals = 0
 [[speed]]
@@ -114,161 +111,159 @@ window = 100000
 /// Readings of two sensors; one row lacks the first.
 const ROWS: &str = "time,out,note,in\n0,10,a,20\n1,,b,30\n2,8,,9\n";
 
-/// Two bounds: rule, rows, columns of which the second is 0 for a bound on one value, limits up and down.
-type Both = (u32, u32, u32, u32, u32, i64, i64);
+// The bounds that are made: rule, rows, column, side, row and column of both ends, which are 0 for none, and limit.
+
+const STEADY: &str = "0 1 1 2 up: 0 0 to 1 2 at most 1000000000000000
+0 1 1 2 down: 1 2 to 0 0 at most 1000000000000000
+0 2 2 2 up: 0 0 to 2 2 at most 1000000000000000
+0 2 2 2 down: 2 2 to 0 0 at most 1000000000000000
+0 3 3 2 up: 0 0 to 3 2 at most 1000000000000000
+0 3 3 2 down: 3 2 to 0 0 at most 1000000000000000
+1 1 2 2 up: 1 2 to 2 2 at most 1
+1 1 2 2 down: 2 2 to 1 2 at most 1
+1 2 3 2 up: 2 2 to 3 2 at most 1
+1 2 3 2 down: 3 2 to 2 2 at most 1
+";
+
+const APART: &str = "0 1 1 2 up: 0 0 to 1 2 at most 1000000000000000
+0 1 1 2 down: 1 2 to 0 0 at most 1000000000000000
+0 2 2 2 up: 0 0 to 2 2 at most 1000000000000000
+0 2 2 2 down: 2 2 to 0 0 at most 1000000000000000
+";
+
+const AT_WINDOW: &str = "0 1 1 2 up: 0 0 to 1 2 at most 1000000000000000
+0 1 1 2 down: 1 2 to 0 0 at most 1000000000000000
+0 2 2 2 up: 0 0 to 2 2 at most 1000000000000000
+0 2 2 2 down: 2 2 to 0 0 at most 1000000000000000
+1 1 2 2 up: 1 2 to 2 2 at most 10
+1 1 2 2 down: 2 2 to 1 2 at most 10
+";
+
+const MISSING: &str = "0 1 1 2 up: 0 0 to 1 2 at most 1000000000000000
+0 1 1 2 down: 1 2 to 0 0 at most 1000000000000000
+0 3 3 2 up: 0 0 to 3 2 at most 1000000000000000
+0 3 3 2 down: 3 2 to 0 0 at most 1000000000000000
+1 1 3 2 up: 1 2 to 3 2 at most 2
+1 1 3 2 down: 3 2 to 1 2 at most 2
+";
+
+const EACH_PAIR: &str = "0 1 1 2 up: 0 0 to 1 2 at most 1000000000000000
+0 1 1 2 down: 1 2 to 0 0 at most 1000000000000000
+0 2 2 2 up: 0 0 to 2 2 at most 1000000000000000
+0 2 2 2 down: 2 2 to 0 0 at most 1000000000000000
+0 3 3 2 up: 0 0 to 3 2 at most 1000000000000000
+0 3 3 2 down: 3 2 to 0 0 at most 1000000000000000
+0 4 4 2 up: 0 0 to 4 2 at most 1000000000000000
+0 4 4 2 down: 4 2 to 0 0 at most 1000000000000000
+1 1 2 2 up: 1 2 to 2 2 at most 2
+1 1 2 2 down: 2 2 to 1 2 at most 1
+1 1 3 2 up: 1 2 to 3 2 at most 4
+1 1 3 2 down: 3 2 to 1 2 at most 2
+1 2 3 2 up: 2 2 to 3 2 at most 2
+1 2 3 2 down: 3 2 to 2 2 at most 1
+1 3 4 2 up: 3 2 to 4 2 at most 4
+1 3 4 2 down: 4 2 to 3 2 at most 2
+";
+
+const SWINGS: &str = "0 1 1 2 up: 0 0 to 1 2 at most 1000000000000000
+0 1 1 2 down: 1 2 to 0 0 at most 1000000000000000
+0 2 2 2 up: 0 0 to 2 2 at most 1000000000000000
+0 2 2 2 down: 2 2 to 0 0 at most 1000000000000000
+0 3 3 2 up: 0 0 to 3 2 at most 1000000000000000
+0 3 3 2 down: 3 2 to 0 0 at most 1000000000000000
+1 1 2 2 up: 1 2 to 2 2 at most 5
+1 1 2 2 down: 2 2 to 1 2 at most 5
+1 1 3 2 up: 1 2 to 3 2 at most 5
+1 1 3 2 down: 3 2 to 1 2 at most 5
+1 2 3 2 up: 2 2 to 3 2 at most 5
+1 2 3 2 down: 3 2 to 2 2 at most 5
+";
+
+const DRIFTS: &str = "0 1 1 2 up: 0 0 to 1 2 at most 1000000000000000
+0 1 1 2 down: 1 2 to 0 0 at most 1000000000000000
+0 2 2 2 up: 0 0 to 2 2 at most 1000000000000000
+0 2 2 2 down: 2 2 to 0 0 at most 1000000000000000
+0 3 3 2 up: 0 0 to 3 2 at most 1000000000000000
+0 3 3 2 down: 3 2 to 0 0 at most 1000000000000000
+1 1 3 2 up: 1 2 to 3 2 at most 1
+1 1 3 2 down: 3 2 to 1 2 at most 1
+";
+
+const TWO_BOUNDS: &str = "0 1 1 2 up: 0 0 to 1 2 at most 1000000000000000
+0 1 1 2 down: 1 2 to 0 0 at most 1000000000000000
+0 1 1 4 up: 0 0 to 1 4 at most 1000000000000000
+0 1 1 4 down: 1 4 to 0 0 at most 1000000000000000
+0 2 2 4 up: 0 0 to 2 4 at most 1000000000000000
+0 2 2 4 down: 2 4 to 0 0 at most 1000000000000000
+0 3 3 2 up: 0 0 to 3 2 at most 1000000000000000
+0 3 3 2 down: 3 2 to 0 0 at most 1000000000000000
+0 3 3 4 up: 0 0 to 3 4 at most 1000000000000000
+0 3 3 4 down: 3 4 to 0 0 at most 1000000000000000
+1 2 2 4 up: 0 0 to 2 4 at most 50
+1 2 2 4 down: 2 4 to 0 0 at most -3
+1 3 3 4 up: 0 0 to 3 4 at most 50
+1 3 3 4 down: 3 4 to 0 0 at most -3
+2 3 3 2 up: 0 0 to 3 2 at most 8
+2 3 3 2 down: 3 2 to 0 0 at most -8
+5 1 1 2 up: 1 2 to 1 4 at most 5
+5 1 1 2 down: 1 4 to 1 2 at most 2
+5 3 3 2 up: 3 2 to 3 4 at most 5
+5 3 3 2 down: 3 4 to 3 2 at most 2
+";
 
 /// Rules, readings, and the bounds that are made.
-type Made = (&'static str, &'static str, &'static [Both]);
-
-const MADE: [Made; 10] = [
-    (SPEED, "time,x\n", &[]),
-    (
-        SPEED,
-        "time,x\n0,10\n1,11\n2,12\n",
-        &[
-            (0, 1, 1, 2, 0, SIZE, SIZE),
-            (0, 2, 2, 2, 0, SIZE, SIZE),
-            (0, 3, 3, 2, 0, SIZE, SIZE),
-            (1, 1, 2, 2, 2, 1, 1),
-            (1, 2, 3, 2, 2, 1, 1),
-        ],
-    ),
-    (
-        SPEED,
-        "time,x\n0,0\n11,100\n",
-        &[(0, 1, 1, 2, 0, SIZE, SIZE), (0, 2, 2, 2, 0, SIZE, SIZE)],
-    ),
-    (
-        SPEED,
-        "time,x\n0,0\n10,100\n",
-        &[
-            (0, 1, 1, 2, 0, SIZE, SIZE),
-            (0, 2, 2, 2, 0, SIZE, SIZE),
-            (1, 1, 2, 2, 2, 10, 10),
-        ],
-    ),
-    (
-        SPEED,
-        "time,x\n0,0\n1,\n2,2\n",
-        &[
-            (0, 1, 1, 2, 0, SIZE, SIZE),
-            (0, 3, 3, 2, 0, SIZE, SIZE),
-            (1, 1, 3, 2, 2, 2, 2),
-        ],
-    ),
-    (
-        SPEED,
-        "time,x\n0,0\n1,NaN\n2,2\n",
-        &[
-            (0, 1, 1, 2, 0, SIZE, SIZE),
-            (0, 3, 3, 2, 0, SIZE, SIZE),
-            (1, 1, 3, 2, 2, 2, 2),
-        ],
-    ),
-    (
-        PRICED,
-        "time,x\n0,1\n1,2\n2,3\n4,4\n",
-        &[
-            (0, 1, 1, 2, 0, SIZE, SIZE),
-            (0, 2, 2, 2, 0, SIZE, SIZE),
-            (0, 3, 3, 2, 0, SIZE, SIZE),
-            (0, 4, 4, 2, 0, SIZE, SIZE),
-            (1, 1, 2, 2, 2, 2, 1),
-            (1, 1, 3, 2, 2, 4, 2),
-            (1, 2, 3, 2, 2, 2, 1),
-            (1, 3, 4, 2, 2, 4, 2),
-        ],
-    ),
-    (
-        SWING,
-        "time,x\n0,0\n5,4\n10,8\n",
-        &[
-            (0, 1, 1, 2, 0, SIZE, SIZE),
-            (0, 2, 2, 2, 0, SIZE, SIZE),
-            (0, 3, 3, 2, 0, SIZE, SIZE),
-            (1, 1, 2, 2, 2, 5, 5),
-            (1, 1, 3, 2, 2, 5, 5),
-            (1, 2, 3, 2, 2, 5, 5),
-        ],
-    ),
-    (
-        DRIFT,
-        "time,x\n0,0\n5,5\n10,9\n",
-        &[
-            (0, 1, 1, 2, 0, SIZE, SIZE),
-            (0, 2, 2, 2, 0, SIZE, SIZE),
-            (0, 3, 3, 2, 0, SIZE, SIZE),
-            (1, 1, 3, 2, 2, 1, 1),
-        ],
-    ),
-    (
-        TWO,
-        ROWS,
-        &[
-            (0, 1, 1, 2, 0, SIZE, SIZE),
-            (0, 1, 1, 4, 0, SIZE, SIZE),
-            (0, 2, 2, 4, 0, SIZE, SIZE),
-            (0, 3, 3, 2, 0, SIZE, SIZE),
-            (0, 3, 3, 4, 0, SIZE, SIZE),
-            (1, 2, 2, 4, 0, 50, -3),
-            (1, 3, 3, 4, 0, 50, -3),
-            (2, 3, 3, 2, 0, 8, -8),
-            (5, 1, 1, 2, 4, 5, 2),
-            (5, 3, 3, 2, 4, 5, 2),
-        ],
-    ),
+const MADE: [(&str, &str, &str); 10] = [
+    (SPEED, "time,x\n", ""),
+    (SPEED, "time,x\n0,10\n1,11\n2,12\n", STEADY),
+    (SPEED, "time,x\n0,0\n11,100\n", APART),
+    (SPEED, "time,x\n0,0\n10,100\n", AT_WINDOW),
+    (SPEED, "time,x\n0,0\n1,\n2,2\n", MISSING),
+    (SPEED, "time,x\n0,0\n1,NaN\n2,2\n", MISSING),
+    (PRICED, "time,x\n0,1\n1,2\n2,3\n4,4\n", EACH_PAIR),
+    (SWING, "time,x\n0,0\n5,4\n10,8\n", SWINGS),
+    (DRIFT, "time,x\n0,0\n5,5\n10,9\n", DRIFTS),
+    (TWO, ROWS, TWO_BOUNDS),
 ];
 
-/// The name of one of two bounds.
-fn name_of(both: &Both, side: Side) -> BoundName {
-    BoundName {
-        rule: both.0,
-        from_row: both.1,
-        to_row: both.2,
-        col: both.3,
-        side,
+/// The place of an end.
+fn place_of(end: End) -> Place {
+    match end {
+        End::Zero => Place { row: 0, col: 0 },
+        End::At(place) => place,
     }
 }
 
-/// The ends of a bound up.
-fn ends_of(both: &Both) -> (End, End) {
-    let first = End::At(Place {
-        row: both.1,
-        col: both.3,
-    });
-    if both.4 == 0 {
-        return (End::Zero, first);
-    }
-    let second = End::At(Place {
-        row: both.2,
-        col: both.4,
-    });
-    (first, second)
+/// Both ends and the limit of a bound.
+fn ends_text(alloc: Global, bound: &Bound) -> Result<String, Fail> {
+    let first = place_of(bound.first);
+    let second = place_of(bound.second);
+    let limit = bound.limit;
+    Ok(format!(in alloc;
+        "{} {} to {} {} at most {limit}\n",
+        first.row, first.col, second.row, second.col
+    )?)
 }
 
-/// One of two bounds.
-fn bound(both: &Both, side: Side) -> Bound {
-    let (low, high) = ends_of(both);
-    let (first, second, limit) = match side {
-        Side::Up => (low, high, both.5),
-        Side::Down => (high, low, both.6),
+/// The name of a bound.
+fn name_text(alloc: Global, name: BoundName) -> Result<String, Fail> {
+    let side = match name.side {
+        Side::Up => "up",
+        Side::Down => "down",
     };
-    Bound {
-        name: name_of(both, side),
-        first,
-        second,
-        limit,
-    }
+    Ok(format!(in alloc;
+        "{} {} {} {} {side}: ",
+        name.rule, name.from_row, name.to_row, name.col
+    )?)
 }
 
-/// The bounds of a list of both.
-fn bounds_of(alloc: Global, wanted: &[Both]) -> Result<BoundList, Fail> {
-    let mut bounds = BoundList::new(alloc);
-    for both in wanted {
-        bounds.push(bound(both, Side::Up))?;
-        bounds.push(bound(both, Side::Down))?;
+/// The bounds as lines.
+fn lines_of(alloc: Global, bounds: &[Bound]) -> Result<Vec<u8>, Fail> {
+    let mut text = Vec::new(alloc);
+    for bound in bounds {
+        text.extend_from_slice(name_text(alloc, bound.name)?.as_bytes())?;
+        text.extend_from_slice(ends_text(alloc, bound)?.as_bytes())?;
     }
-    Ok(bounds)
+    Ok(text)
 }
 
 /// Rules and a table that they read.
@@ -278,19 +273,6 @@ fn read(alloc: Global, rules: &str, readings: &[u8]) -> Result<(Rules, Table), F
     Ok((rules, table))
 }
 
-/// The rules make these bounds of the readings.
-fn makes(
-    rt: &impl Abort,
-    alloc: Global,
-    table: &Table,
-    rules: &Rules,
-    wanted: &BoundList,
-) -> Result<(), Fail> {
-    let bounds = make(alloc, table, rules)?;
-    assert_eq!(rt; bounds.as_slice(), wanted.as_slice());
-    Ok(())
-}
-
 /// Each of the bounds is found by its name.
 fn finds(rt: &impl Abort, table: &Table, rules: &Rules, bounds: &[Bound]) {
     for bound in bounds {
@@ -298,14 +280,26 @@ fn finds(rt: &impl Abort, table: &Table, rules: &Rules, bounds: &[Bound]) {
     }
 }
 
+/// The rules make these bounds of the readings, and each is found by its name.
+fn makes(
+    rt: &impl Abort,
+    alloc: Global,
+    rules: &str,
+    readings: &str,
+    wanted: &str,
+) -> Result<(), Fail> {
+    let (rules, table) = read(alloc, rules, readings.as_bytes())?;
+    let bounds = make(alloc, &table, &rules)?;
+    let lines = lines_of(alloc, bounds.as_slice())?;
+    assert_eq!(rt; lines.as_slice(), wanted.as_bytes());
+    finds(rt, &table, &rules, bounds.as_slice());
+    Ok(())
+}
+
 #[test]
 fn bounds_of_rules(rt: HostRuntime) -> Result<(), Fail> {
-    let alloc = rt.alloc();
     for (rules, readings, wanted) in MADE {
-        let (rules, table) = read(alloc, rules, readings.as_bytes())?;
-        let bounds = bounds_of(alloc, wanted)?;
-        makes(&rt, alloc, &table, &rules, &bounds)?;
-        finds(&rt, &table, &rules, bounds.as_slice());
+        makes(&rt, rt.alloc(), rules, readings, wanted)?;
     }
     Ok(())
 }
@@ -444,16 +438,29 @@ fn costs(
     assert_eq!(rt; broken, cost.3);
 }
 
+/// Each series costs and breaks what is wanted.
+fn all_cost(
+    rt: &impl Abort,
+    alloc: Global,
+    table: &Table,
+    rules: &Rules,
+    bounds: &BoundList,
+) -> Result<(), Fail>
+    requires { length bounds.now ≤ MOST_BOUNDS }
+{
+    for cost in &COSTS {
+        let series = Series::from_slice(alloc, &cost.0)?;
+        costs(rt, table, rules, bounds, &series, cost);
+    }
+    Ok(())
+}
+
 #[test]
 fn costs_of_series(rt: HostRuntime) -> Result<(), Fail> {
     let alloc = rt.alloc();
     let (rules, table) = read(alloc, TWO, ROWS.as_bytes())?;
     let bounds = make(alloc, &table, &rules)?;
-    for cost in &COSTS {
-        let series = Series::from_slice(alloc, &cost.0)?;
-        costs(&rt, &table, &rules, &bounds, &series, cost);
-    }
-    Ok(())
+    all_cost(&rt, alloc, &table, &rules, &bounds)
 }
 
 #[test]
