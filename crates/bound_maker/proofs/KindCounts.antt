@@ -1,5 +1,5 @@
 -- How many bounds a rule of each kind makes, as the code counts them.
-use Rattle.std.proofs.Common.{◌≡◌, ℕ, ◌+◌, ◌*◌, ℤ, ◌&&◌, min, List, [], length, refl, sym, ap, ◌∙◌, arith}
+use Rattle.std.proofs.Common.{◌≡◌, ℕ, ◌*◌, ℤ, ◌&&◌, min, List, length, sym, ap, ◌∙◌, arith}
 use Rattle.std.specs.Prelude.{is_some}
 use Rattle.std.specs.List.{count_by}
 use Rattle.screen_model.specs.declared.bound.Bound.{Bound}

@@ -1,10 +1,10 @@
 -- The reading in a row and a column, and the bounds of one reading or of one row with a name.
-use Rattle.std.proofs.Common.{◌≡◌, ◌≢◌, ℕ, zero, suc, ◌+◌, ◌<◌, ◌≤◌, ◌^◌, ℤ, pos, neg_ℤ, Bool, true, false, cond, List, [], ◌∷◌, ◌++◌, map, Option, Some, None, refl, sym, ap, ◌∙◌, subst, arith}
-use Rattle.std.specs.Prelude.{Contains, slice_get, is_some, unsigned_abs}
-use Rattle.std.specs.List.{AllByRecursion, flat_map}
+use Rattle.std.proofs.Common.{◌≡◌, ◌≢◌, ℕ, zero, suc, ◌+◌, ◌<◌, ◌≤◌, ℤ, neg_ℤ, Bool, true, false, cond, List, [], ◌∷◌, map, Option, Some, None, refl, sym, ap, ◌∙◌, subst, arith}
+use Rattle.std.specs.Prelude.{Contains, slice_get, is_some}
+use Rattle.std.specs.List.{AllByRecursion}
 use Rattle.std.proofs.lemmas.List.Elements.{Contains-append_left, Contains-append_right}
 use Rattle.words.specs.Lists.{Distinct}
-use Rattle.words.proofs.Lists.{all_append, all_at, all_weaker, contains_cases, contains_first, contains_later, contains_none}
+use Rattle.words.proofs.Lists.{all_append, all_weaker, contains_first, contains_later}
 use Rattle.screen_model.specs.declared.bound.Bound.{Bound}
 use Rattle.screen_model.specs.declared.bound.BoundName.{BoundName}
 use Rattle.screen_model.specs.declared.bound.Side.{Side}
@@ -19,7 +19,7 @@ use Rattle.series_csv.specs.File.{TableView}
 use Rattle.series_csv.specs.Readings.{row_at}
 use Rattle.bound_maker.specs.declared.reading.Reading.{Reading}
 use Rattle.bound_maker.specs.Bounds.{both_sides, bounds_in_rows, bounds_in_time, bounds_of_kind, bounds_of_pairs, col_if_read, size_bounds, value_bound, value_bounds}
-use Rattle.bound_maker.specs.Named.{AreElsewhere, AreUnnamed, Finds, HasNone, IsNamed, each_pair}
+use Rattle.bound_maker.specs.Named.{AreElsewhere, Finds, HasNone, IsNamed, each_pair}
 use Rattle.bound_maker.specs.Pairs.{pair_bound}
 use Rattle.bound_maker.specs.Readings.{all_pairs, before_later, reading_in, readings_from, readings_of}
 use Rattle.bound_maker.specs.declared.values.Limits.{Limits}

@@ -1,7 +1,7 @@
 use Rattle.std.proofs.Common.{arith}
 use Rattle.rule_file.specs.Numbers.{rules_in_order}
 use Rattle.bound_maker.specs.Bounds.{with_columns}
-use Rattle.bound_maker.proofs.Changes.{row_fits, rows_step}
+use Rattle.bound_maker.proofs.Changes.{rows_step}
 use Rattle.bound_maker.proofs.weight.change_of_rows.Goals as goal
 
 pub loop-row-preserved : goal.loop-row-preserved
