@@ -6,12 +6,12 @@ use Rattle.words.proofs.Products.{size_within}
 use Rattle.fix_point.specs.declared.rate.Rate.{Rate}
 use Rattle.fix_point.specs.declared.scale.TheConstants.{MOST_UNITS}
 use Rattle.fix_point.specs.Rates.{IsInReach, IsRate, IsWithinReach, ceil_step, floor_step, opposite}
-use Rattle.fix_point.proofs.Rates.{ceil_of_floor, ceil_small, floor_of, opposite_within, reach_of_fewer, size_of_neg, step_small}
+use Rattle.fix_point.proofs.Rates.{ceil_of_floor, ceil_small, floor_of, reach_of_fewer, size_of_neg, step_small}
 use Rattle.screen_model.specs.declared.bound.Side.{Side}
 use Rattle.screen_model.specs.declared.bound.Side.TheVariants.{Up, Down}
 use Rattle.rule_file.specs.Limits.{AreInReach, AreRates, IsSpan, IsUnits}
 use Rattle.pair_bounds.specs.Pairs.{is_within, limit_on, rate_limit}
-use Rattle.bound_maker.proofs.Chains.{LieWithin, lie_within}
+use Rattle.bound_maker.proofs.Chains.{lie_within}
 
 -- at most 4·10^15 in size
 abbrev pub IsLimited : ℤ → Type 0

@@ -1,5 +1,5 @@
 -- Both ends of each bound that is made are Zero or readings, and its limit is at most 4·10^15 in size.
-use Rattle.std.proofs.Common.{◌≡◌, ℕ, suc, ◌*◌, ◌≤◌, ◌^◌, ℤ, pos, neg_ℤ, Bool, true, false, cond, List, [], ◌∷◌, ◌++◌, take, drop, length, Option, Some, None, refl, subst, arith}
+use Rattle.std.proofs.Common.{◌≡◌, ℕ, suc, ◌≤◌, ◌^◌, ℤ, pos, neg_ℤ, Bool, true, false, cond, List, [], ◌∷◌, drop, length, Option, Some, None, refl, subst, arith}
 use Rattle.std.specs.Prelude.{Contains, is_some, option_to_list, unsigned_abs, ◌==◌}
 use Rattle.std.specs.List.{AllByRecursion, flat_map}
 use Rattle.words.proofs.Lists.{all_append, all_weaker, contains_first}
@@ -9,7 +9,6 @@ use Rattle.screen_model.specs.declared.bound.Side.{Side}
 use Rattle.screen_model.specs.declared.bound.Side.TheVariants.{Up, Down}
 use Rattle.screen_model.specs.declared.place.Place.{Place}
 use Rattle.screen_model.specs.Obeys.{HasEnds}
-use Rattle.rule_file.specs.Limits.{IsUnits}
 use Rattle.rule_file.specs.Numbers.{Rule, speed, swing, drift, range, trust, weight, between, rules_in_order, sensor_names}
 use Rattle.rule_file.specs.declared.rules.BetweenRule.{BetweenRule}
 use Rattle.rule_file.specs.declared.rules.DriftRule.{DriftRule}

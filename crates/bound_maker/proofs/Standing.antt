@@ -1,10 +1,10 @@
 -- A reading of a column stands at one of the places of the rows.
-use Rattle.std.proofs.Common.{◌≡◌, ℕ, suc, ◌≤◌, ◌^◌, ℤ, Bool, true, false, cond, List, [], ◌∷◌, ◌++◌, map, Option, Some, None, refl, sym, ap, ◌∙◌, subst, arith}
-use Rattle.std.specs.Prelude.{Contains, unsigned_abs, ◌==◌, option_map}
+use Rattle.std.proofs.Common.{◌≡◌, ℕ, suc, ℤ, Bool, true, false, cond, List, [], ◌∷◌, ◌++◌, map, Option, Some, None, refl, subst}
+use Rattle.std.specs.Prelude.{Contains, ◌==◌, option_map}
 use Rattle.std.specs.List.{AllByRecursion, find}
 use Rattle.std.proofs.lemmas.Bool.{eqb-true}
 use Rattle.std.proofs.lemmas.List.Elements.{Contains-append_left, Contains-append_right}
-use Rattle.words.proofs.Lists.{all_append, all_map, contains_first, contains_later}
+use Rattle.words.proofs.Lists.{all_append, contains_first, contains_later}
 use Rattle.screen_model.specs.declared.place.Place.{Place}
 use Rattle.pair_bounds.specs.Pairs.{place_in}
 use Rattle.series_rows.specs.declared.cell.RowReading.{RowReading}
