@@ -3,8 +3,10 @@ pub mod Broken
 pub mod Columns
 pub mod Costs
 pub mod Laws
+pub mod Named
 pub mod Pairs
 pub mod Readings
 pub mod Ruled
+pub mod Sound
 pub mod Weighed
 pub mod Windows
