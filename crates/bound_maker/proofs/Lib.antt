@@ -1,4 +1,5 @@
 pub mod Among
+pub mod Ascending
 pub mod Binding
 pub mod Chains
 pub mod Changes
@@ -22,3 +23,4 @@ pub mod Sliding
 pub mod Steps
 pub mod Weights
 pub mod Windows
+pub mod Writing

@@ -9,3 +9,4 @@ pub mod Readings
 pub mod Ruled
 pub mod Weighed
 pub mod Windows
+pub mod Written
