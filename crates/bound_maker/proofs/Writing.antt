@@ -1,11 +1,10 @@
 -- The names of all bounds go up, and can be written.
-use Rattle.std.proofs.Common.{◌≡◌, ℕ, suc, ◌+◌, ◌<◌, ◌≤◌, ℤ, neg_ℤ, Bool, true, false, cond, ◌⊎◌, inl, inr, List, [], ◌∷◌, ◌++◌, length, map, drop, Option, Some, None, refl, sym, ap, ◌∙◌, subst, arith}
+use Rattle.std.proofs.Common.{◌≡◌, ℕ, suc, ◌+◌, ◌<◌, ◌≤◌, ℤ, Bool, true, false, cond, inl, inr, List, [], ◌∷◌, length, map, drop, Option, Some, None, refl, sym, ap, ◌∙◌, subst, arith}
 use Rattle.std.specs.Prelude.{◌==◌, is_some, option_map}
 use Rattle.std.specs.List.{AllByRecursion, find, flat_map}
 use Rattle.std.proofs.lemmas.Bool.{eqb-true}
 use Rattle.std.proofs.lemmas.List.{map-append}
 use Rattle.words.proofs.Lists.{all_append, all_map, all_weaker}
-use Rattle.fix_point.specs.declared.scale.TheConstants.{MOST_UNITS}
 use Rattle.screen_model.specs.declared.bound.Bound.{Bound}
 use Rattle.screen_model.specs.declared.bound.BoundName.{BoundName}
 use Rattle.screen_model.specs.declared.bound.Side.{Side}
@@ -30,7 +29,7 @@ use Rattle.bound_maker.proofs.Ascending.{AreBelow, AreNamedSo, Ascends, HasParts
 use Rattle.bound_maker.proofs.Chains.{joined}
 use Rattle.bound_maker.proofs.Distinct.{firsts, kind_rule, map_flat, names, numbers_from, row_of, rows_from, sizes_rule}
 use Rattle.bound_maker.proofs.Finding.{named_so, of_pair, seconds, value_named}
-use Rattle.bound_maker.proofs.Lookups.{each_pair_of, each_reading, row_named, size_name, size_on}
+use Rattle.bound_maker.proofs.Lookups.{row_named, size_name, size_on}
 use Rattle.bound_maker.proofs.Making.{rules_few}
 
 none_is_some : {A : Type 0} (x : A) → ◌≡◌ {A = Option A} None (Some x) → ⊥

@@ -1,7 +1,6 @@
 -- To be believed: that names and places can be written in a certificate.
-use Rattle.std.specs.Prelude.{ℕ, ◌≤◌, List, map}
+use Rattle.std.specs.Prelude.{ℕ, ◌≤◌, map}
 use Rattle.std.specs.List.{AllByRecursion}
-use Rattle.screen_model.specs.declared.bound.Bound.{Bound}
 use Rattle.screen_model.specs.declared.bound.BoundName.{BoundName}
 use Rattle.screen_model.specs.declared.limits.TheConstants.{MOST_ROWS, MOST_COLUMNS}
 use Rattle.screen_model.specs.declared.place.Place.{Place}
