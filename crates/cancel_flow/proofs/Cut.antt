@@ -1,6 +1,6 @@
 -- Where nothing more can be gained, the distances respect a bound without a price also where it is full: else more would
 -- flow into the nodes that rose above its tail than can flow out of them.
-use Rattle.std.proofs.Common.{◌≡◌, ◌≢◌, ℕ, zero, suc, ◌+◌, ◌*◌, ◌/◌, ◌<◌, ◌≤◌, Bool, true, false, cond, eqb, ◌||◌, ◌⊎◌, ⊎_elim, ℤ, pos, negsuc, ◌+ℤ◌, ◌-ℤ◌, ◌*ℤ◌, ◌≤ℤ◌, ◌<ℤ◌, List, [], ◌∷◌, ◌++◌, length, map, sum, get_or, take, drop, refl, sym, ap, ◌∙◌, subst, arith, zero-add}
+use Rattle.std.proofs.Common.{◌≡◌, ◌≢◌, ℕ, zero, suc, ◌+◌, ◌*◌, ◌<◌, ◌≤◌, Bool, true, false, cond, eqb, ◌||◌, ⊎_elim, ℤ, pos, negsuc, ◌+ℤ◌, ◌-ℤ◌, ◌*ℤ◌, ◌≤ℤ◌, ◌<ℤ◌, List, [], ◌∷◌, length, map, sum, get_or, take, drop, refl, sym, ap, ◌∙◌, subst, arith, zero-add}
 use Rattle.std.specs.List.{AllByRecursion, AllZip}
 use Rattle.std.specs.Int.{is_positive}
 use Rattle.std.proofs.lemmas.Int.{ints, by_lt_z}
@@ -13,7 +13,7 @@ use Rattle.words.proofs.Products.{mul_sum, mul_minus, mul_swap}
 use Rattle.bound_graph.specs.declared.arc.Arc.{Arc}
 use Rattle.bound_graph.specs.Arcs.{IsArc}
 use Rattle.bound_graph.specs.Values.{value_of, RespectsArc, RespectsArcs}
-use Rattle.flow_core.specs.Layout.{FlowNetwork, reading_arcs, arcs_of, arc_numbered, no_arc, nodes_of, twice, unpriced_capacity, capacity_at_price, capacity_numbered, capacities_of, is_unpriced}
+use Rattle.flow_core.specs.Layout.{FlowNetwork, reading_arcs, arcs_of, arc_numbered, no_arc, nodes_of, twice, unpriced_capacity, capacity_at_price, capacity_numbered}
 use Rattle.flow_core.specs.State.{NetworkState, IsNetwork, IsWithin, one_if, unit_balance, balance, flow_on, residual_of}
 use Rattle.flow_core.specs.Views.{reversed, is_residual, is_bare, residual_arcs, tight_arcs, bare_arcs}
 use Rattle.flow_core.proofs.Sizes.{length-arcs_of, length-flows, arcs_valid, capacity_of_bound, flow_within}

@@ -1,6 +1,5 @@
 -- What a negative cycle of residual arcs is by its numbers.
-use Rattle.std.proofs.Common.{◌≡◌, ◌≢◌, ℕ, zero, suc, ◌<◌, eqb, ℤ, pos, negsuc, ◌+ℤ◌, ◌-ℤ◌, ◌≤ℤ◌, List, [], ◌∷◌, length, map, get_or, Option, Some, refl, sym, ap, ◌∙◌, subst, arith}
-use Rattle.std.specs.List.{AllByRecursion}
+use Rattle.std.proofs.Common.{◌≡◌, ◌≢◌, ℕ, zero, suc, ◌<◌, eqb, ℤ, pos, negsuc, ◌-ℤ◌, ◌≤ℤ◌, List, [], ◌∷◌, length, map, get_or, Some, refl, sym, ap, ◌∙◌, subst, arith}
 use Rattle.std.proofs.lemmas.Int.{ints}
 use Rattle.std.proofs.lemmas.List.{length-map, get_or-map}
 use Rattle.words.specs.Lists.{Distinct, total}
@@ -8,7 +7,6 @@ use Rattle.bound_graph.specs.declared.arc.Arc.{Arc}
 use Rattle.bound_graph.specs.Arcs.{arc_at}
 use Rattle.bound_graph.specs.Cycle.{IsNegativeCycle}
 use Rattle.bound_graph.proofs.Cycles.{over, over-rotated}
-use Rattle.flow_core.specs.Layout.{FlowNetwork, no_arc}
 use Rattle.flow_core.specs.State.{NetworkState, one_if, unit_balance}
 use Rattle.flow_core.specs.Views.{residual_arcs}
 use Rattle.cancel_flow.specs.Cycles.{arc_of, HasRoom, HaveRoom, IsResidualCycle}

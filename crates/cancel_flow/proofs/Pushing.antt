@@ -1,10 +1,10 @@
 -- Flow pushed along one arc after the other.
-use Rattle.std.proofs.Common.{◌≡◌, ◌≢◌, ℕ, zero, suc, ◌+◌, ◌*◌, ◌/◌, ◌%◌, ◌^◌, ◌<◌, ◌≤◌, Bool, true, false, cond, eqb, ◌⊎◌, inl, inr, ⊎_elim, ℤ, pos, negsuc, ◌+ℤ◌, ◌-ℤ◌, ◌*ℤ◌, ◌≤ℤ◌, ◌<ℤ◌, List, [], ◌∷◌, ◌++◌, length, map, take, get_or, set, refl, sym, ap, ◌∙◌, subst, arith, get_or-set_same, get_or-set_other}
+use Rattle.std.proofs.Common.{◌≡◌, ◌≢◌, ℕ, zero, suc, ◌+◌, ◌/◌, ◌%◌, ◌^◌, ◌<◌, ◌≤◌, Bool, true, false, cond, eqb, ⊎_elim, ℤ, pos, negsuc, ◌+ℤ◌, ◌-ℤ◌, ◌*ℤ◌, ◌≤ℤ◌, ◌<ℤ◌, List, [], ◌∷◌, length, map, take, get_or, refl, sym, ap, ◌∙◌, subst, arith, get_or-set_same, get_or-set_other}
 use Rattle.std.specs.Prelude.{unsigned_abs}
 use Rattle.std.proofs.lemmas.Int.{ints}
-use Rattle.std.proofs.lemmas.Bool.{eqb-true, eqb-false, cases_eq, cases_lt}
+use Rattle.std.proofs.lemmas.Bool.{eqb-true, cases_eq, cases_lt}
 use Rattle.std.proofs.lemmas.List.{length-map, get_or-map, get_or_past, map-append, take_more}
-use Rattle.std.proofs.Math.IntN.{*ℤ-zero, *ℤ-one}
+use Rattle.std.proofs.Math.IntN.{*ℤ-zero}
 use Rattle.words.specs.Lists.{inner_product, total}
 use Rattle.words.proofs.Sums.{total-append}
 use Rattle.words.proofs.InnerProducts.{inner_product-set}
@@ -12,10 +12,10 @@ use Rattle.words.proofs.Products.{mul_sum, mul_minus, zero_minus_mul, within_siz
 use Rattle.bound_graph.specs.declared.arc.Arc.{Arc}
 use Rattle.bound_graph.specs.Values.{value_of}
 use Rattle.flow_core.specs.Layout.{FlowNetwork, arcs_of, arc_numbered, no_arc, nodes_of, capacity_numbered}
-use Rattle.flow_core.specs.State.{NetworkState, IsNetwork, flow_on, residual_of, added, rise_by, pushed, one_if, unit_balance, balance, value}
+use Rattle.flow_core.specs.State.{NetworkState, IsNetwork, flow_on, added, rise_by, pushed, unit_balance, balance, value}
 use Rattle.flow_core.specs.Views.{reversed}
 use Rattle.flow_core.proofs.Sizes.{length-flows, costs_so_far_small, costs_of}
-use Rattle.cancel_flow.specs.Cycles.{is_back, arc_of, room_of, HasRoom, HaveRoom, IsOdd, IsPartway, IsPushedAlong, IsResidualCycle}
+use Rattle.cancel_flow.specs.Cycles.{is_back, arc_of, room_of, HaveRoom, IsOdd, IsPartway, IsPushedAlong, IsResidualCycle}
 
 -- ---- one push
 

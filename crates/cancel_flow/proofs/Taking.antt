@@ -1,5 +1,5 @@
 -- Distances that respect the tight arcs, taken as potentials.
-use Rattle.std.proofs.Common.{◌≡◌, ◌≢◌, ℕ, zero, suc, ◌+◌, ◌*◌, ◌<◌, ◌≤◌, Bool, true, false, ◌||◌, ℤ, pos, ◌+ℤ◌, ◌-ℤ◌, ◌≤ℤ◌, List, length, get_or, set, refl, sym, ap, ◌∙◌, subst, ⊎_elim, arith, get_or-set_same, get_or-set_other, zero-add}
+use Rattle.std.proofs.Common.{◌≡◌, ◌≢◌, ℕ, zero, suc, ◌+◌, ◌*◌, ◌<◌, ◌≤◌, Bool, true, false, ◌||◌, ℤ, pos, ◌-ℤ◌, List, length, get_or, set, refl, sym, ap, ◌∙◌, subst, ⊎_elim, arith, get_or-set_same, get_or-set_other, zero-add}
 use Rattle.std.specs.Prelude.{unsigned_abs}
 use Rattle.std.proofs.lemmas.Int.{ints}
 use Rattle.std.proofs.lemmas.Bool.{cases_eq, eq-eqb}
@@ -8,7 +8,7 @@ use Rattle.words.proofs.Products.{size_within}
 use Rattle.bound_graph.specs.declared.arc.Arc.{Arc}
 use Rattle.bound_graph.specs.Values.{value_of, RespectsArc, RespectsArcs}
 use Rattle.flow_core.specs.declared.limits.TheConstants.{MOST_VALUE}
-use Rattle.flow_core.specs.Layout.{IsLayout, HasRange, HasUnpriced, FlowNetwork, no_arc, nodes_of, arcs_of, arc_numbered, reading_arcs}
+use Rattle.flow_core.specs.Layout.{IsLayout, HasRange, HasUnpriced, no_arc, nodes_of, arcs_of, arc_numbered, reading_arcs}
 use Rattle.flow_core.specs.State.{NetworkState}
 use Rattle.flow_core.specs.Views.{reversed, is_bare, is_residual, bare_arcs, tight_arcs}
 use Rattle.flow_core.proofs.Sizes.{length-arcs_of, arc_valid}

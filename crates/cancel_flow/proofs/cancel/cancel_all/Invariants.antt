@@ -1,5 +1,4 @@
 use Rattle.std.proofs.Common.{◌≡◌, ◌^◌, pos, ◌-ℤ◌, length, unsigned_abs}
-use Rattle.flow_core.specs.Layout.{nodes_of}
 use Rattle.flow_core.specs.State.{IsNetwork, value}
 use Rattle.cancel_flow.specs.Cycles.{IsBalanced}
 use Rattle.cancel_flow.proofs.cancel.cancel_all.Given as goal

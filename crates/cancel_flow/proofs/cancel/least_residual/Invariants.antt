@@ -1,4 +1,4 @@
-use Rattle.std.proofs.Common.{◌<◌, ℕ, pos, ◌≤ℤ◌, get_or, length}
+use Rattle.std.proofs.Common.{◌<◌, ℕ, pos, ◌≤ℤ◌, get_or}
 use Rattle.cancel_flow.specs.Cycles.{HasRoom}
 use Rattle.cancel_flow.proofs.cancel.least_residual.Given as goal
 

@@ -1,8 +1,8 @@
-use Rattle.std.proofs.Common.{◌≡◌, ◌+◌, ◌/◌, ℕ, ℤ, pos, ◌≤ℤ◌, length, sym, ◌∙◌, subst, w64, to_z, of_z, refl, arith}
+use Rattle.std.proofs.Common.{◌+◌, ℤ, pos, ◌≤ℤ◌, sym, ◌∙◌, subst, w64, to_z, of_z, arith}
 use Rattle.std.proofs.lemmas.Int.{to_z-of_z}
 use Rattle.std.proofs.lemmas.Option.{get_or_from_slice_get, slice_get-get_or}
 use Rattle.flow_core.specs.State.{NetworkState}
-use Rattle.cancel_flow.specs.Cycles.{HaveRoom, IsPartway, room_of}
+use Rattle.cancel_flow.specs.Cycles.{IsPartway, room_of}
 use Rattle.cancel_flow.proofs.Cycles.{residual_cycle}
 use Rattle.cancel_flow.proofs.Pushing.{begun, cancelled, inside, step}
 use Rattle.cancel_flow.proofs.cancel.push_around.Goals as goal
@@ -35,9 +35,9 @@ loop-i-preserved c =
     let fits = to_z-of_z w64 c.least_residual-amount.result (record { sfits = c.least_residual-amount.type_inv }) in
     let some : pos 1 ≤ℤ amount = subst (λ (z : ℤ). pos 1 ≤ℤ z) (sym fits) c.least_residual-amount.ensures.some in
     elim c.match-cycle_arc.branch [
-      in-Some w ↦ subst (λ (net : NetworkState). IsPartway c.args.net.now net amount numbers (c.loop-i.i + 1)) (sym w.net-is)
+      | in-Some w ↦ subst (λ (net : NetworkState). IsPartway c.args.net.now net amount numbers (c.loop-i.i + 1)) (sym w.net-is)
           (step c.args.net.now c.loop-i.net _ amount numbers c.loop-i.i w.in-Some.number cycle c.loop-i.invariant some (omega arith) (get_or_from_slice_get numbers c.loop-i.i w.in-Some.number 0 (sym c.cycle_arc.ensures ∙ w.in-Some.is)) w.push.ensures.pushed w.push.ensures.network)
-    | in_default w ↦ absurd (let there = slice_get-get_or numbers c.loop-i.i 0 (omega arith) in let none = sym w.in_default.is ∙ c.cycle_arc.ensures ∙ there in cc)
+      | in_default w ↦ absurd (let there = slice_get-get_or numbers c.loop-i.i 0 (omega arith) in let none = sym w.in_default.is ∙ c.cycle_arc.ensures ∙ there in cc)
     ]
 
 pub returns-clause-excesses : goal.returns-clause-excesses

@@ -1,4 +1,4 @@
-use Rattle.std.proofs.Common.{◌≡◌, List, Option, sym, ap, ◌∙◌, subst}
+use Rattle.std.proofs.Common.{List, Option, sym, ap, ◌∙◌, subst}
 use Rattle.bound_graph.specs.declared.arc.Arc.{Arc}
 use Rattle.bound_graph.specs.Values.{RespectsArcs}
 use Rattle.bound_graph.specs.Cycle.{IsNegativeCycle}
@@ -25,8 +25,8 @@ returns-clause-where_blocked c =
     let new = c.match-settle_from_zero.net in
     let values = c.settle_from_zero.new.room.distances in
     elim c.match-settle_from_zero.branch [
-      in-Cycle w ↦ λ numbers negative. w.solved-is
-    | in-Greatest w ↦ λ numbers negative.
+      | in-Cycle w ↦ λ numbers negative. w.solved-is
+      | in-Greatest w ↦ λ numbers negative.
           let network = ap (λ (net : NetworkState). net.network) w.net-is ∙ w.take_distances.ensures.stays.network ∙ w.cancel_all.ensures.network_stays in
           let respects = subst (λ (arcs : List (Option Arc)). RespectsArcs values arcs) (ap bare_arcs c.bound_arcs.ensures) (c.settle_from_zero.ensures.respects w.in-Greatest.is) in
           absurd (forbids (bare_arcs old) numbers values (subst (λ (arcs : List (Option Arc)). IsNegativeCycle arcs numbers) (same_bare old new network) negative) respects)
