@@ -1,0 +1,7 @@
+pub mod Cut
+pub mod Cycles
+pub mod Examples
+pub mod Numbers
+pub mod Pushing
+pub mod Taking
+pub mod Views
