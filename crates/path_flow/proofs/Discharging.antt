@@ -248,7 +248,7 @@ left_after network bound task old new spare gain is_old is_new some below sign w
     let units = take.units in
     let low = take.low in
     let fits = lower_budget left.budget is.amount (units_left old) (excess_units old) spare task.ends_at_zero left.spare_is (omega (arith, ints, units, low)) when_some
-        (λ stop. let falls = take.excess stop in omega (arith, falls)) (λ stop. left.excess (when_none stop)) in
+    (λ stop. let falls = take.excess stop in omega (arith, falls)) (λ stop. left.excess (when_none stop)) in
     let rest = left.budget - is.amount in
     let split : rest + is.amount ≡ left.budget = omega (arith, fits) in
     record {
@@ -270,9 +270,9 @@ left_after network bound task old new spare gain is_old is_new some below sign w
       done = λ x reading less.
           let none = left.done x reading less in
           let not_e : x ≢ is.end = λ e. ⊎_elim
-              (λ first. absurd (omega (arith, first.0, e, reading)))
-              (λ other. not_zero task.direction (value_of old.excesses is.end) (opposed old task.direction is.end other) (ap (value_of old.excesses) (sym e) ∙ none))
-              is.is_end in
+          (λ first. absurd (omega (arith, first.0, e, reading)))
+          (λ other. not_zero task.direction (value_of old.excesses is.end) (opposed old task.direction is.end other) (ap (value_of old.excesses) (sym e) ∙ none))
+          is.is_end in
           move.others x (omega (arith, less, move.below_s)) (λ e. absurd (omega (arith, e, less))) not_e ∙ none;
     }
 

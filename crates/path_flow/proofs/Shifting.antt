@@ -106,7 +106,7 @@ turned_valid nodes false arc valid = valid
 length_after : (net new : NetworkState) (direction : Direction) (labels : List (Option Label)) (far : ℤ) (arc : ℕ) (back : Bool) → IsLayout net.network → arc < length (arcs_of net.network)
     → new.network ≡ net.network → IsShifted direction labels far (nodes_of net.network) net.potentials new.potentials
     → step_length new direction arc back
-      ≡ (step_length net direction arc back +ℤ nearer far (label_at labels (turned back (arc_numbered net.network arc)).head)) -ℤ nearer far (label_at labels (turned back (arc_numbered net.network arc)).tail)
+    ≡ (step_length net direction arc back +ℤ nearer far (label_at labels (turned back (arc_numbered net.network arc)).head)) -ℤ nearer far (label_at labels (turned back (arc_numbered net.network arc)).tail)
 length_after net new direction labels far arc back layout below same shifted =
     let ends = turned back (arc_numbered net.network arc) in
     let valid = turned_valid (nodes_of net.network) back (arc_numbered net.network arc) (arc_valid net.network arc layout below) in

@@ -87,7 +87,7 @@ past net task reach u number numbers last so_far is_last tail near =
     ⊎_elim
     (λ (e : number ≡ number_of arc back).
     let ends : (turned back (arc_numbered net.network arc)).tail ≡ u =
-        sym (λ i. (turned ((ap is_odd e ∙ number_odd arc back) i) (arc_numbered net.network ((ap (λ n. n / 2) e ∙ number_half arc back) i))).tail) ∙ tail in
+    sym (λ i. (turned ((ap is_odd e ∙ number_odd arc back) i) (arc_numbered net.network ((ap (λ n. n / 2) e ∙ number_half arc back) i))).tail) ∙ tail in
     let same = same_label (label_at reach.labels u) from last (ap (label_at reach.labels) (sym ends) ∙ settled.is) is_last.settled.is in
     inr (near_at net task reach.labels number arc back last from e same (near (room_at net task number arc back e room))))
     (λ later. inl later)

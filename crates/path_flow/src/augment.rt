@@ -25,7 +25,11 @@ pub(crate) fn push_along(net: &mut Network, task: Task, labels: &Labels, end: u3
         match labels.label(node) {
             None => return,
             Some(label) => {
-                net.push(label.number / 2, is_back(label.number, task.direction), amount);
+                net.push(
+                    label.number / 2,
+                    is_back(label.number, task.direction),
+                    amount,
+                );
                 node = node_before(net, label.number);
             }
         }

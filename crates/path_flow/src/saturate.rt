@@ -115,7 +115,10 @@ pub(crate) fn reduced_cost(net: &Network, arc: u32) -> i128
     ensures { result ≡ reduced_cost net.now arc }
 {
     let ends = net.arc(arc);
-    plus(ends.cost, difference(net.potential(ends.tail), net.potential(ends.head)))
+    plus(
+        ends.cost,
+        difference(net.potential(ends.tail), net.potential(ends.head)),
+    )
 }
 
 /// The difference of two potentials.

@@ -259,7 +259,11 @@ fn step_length(net: &Network, direction: Direction, number: u32) -> i128
     ensures size { unsigned_abs result ≤ 6 * 10 ^ 15 }
 {
     let cost = reduced_cost(net, number / 2);
-    if is_back(number, direction) { minus(cost) } else { cost }
+    if is_back(number, direction) {
+        minus(cost)
+    } else {
+        cost
+    }
 }
 
 /// A number negated.

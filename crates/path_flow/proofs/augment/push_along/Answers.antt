@@ -46,7 +46,6 @@ push-requires c =
       room = subst (λ b. amount ≤ℤ residual_of net (label.number / 2) b) (sym c.is_back.ensures) (subst (λ (z : ℤ). amount ≤ℤ z) (sym same) (omega (arith, ints, room, least)));
     }
 
-
 pub loop-node-preserved : goal.loop-node-preserved
 loop-node-preserved c =
     let old = c.args.net.now in
@@ -59,7 +58,7 @@ loop-node-preserved c =
     let new = c.push.ensures.pushed ∙ ap (λ b. pushed net (label.number / 2) b amount) c.is_back.ensures in
     let before = c.node_before-node.ensures ∙ ap (λ (s : NetworkState). (arc_both_ways s.network label.number).tail) c.push.ensures.pushed in
     let back = step_back old net c.push.new.self c.args.task labels c.args.end c.loop-node.node c.node_before-node.result amount label c.requires.network is.network c.requires.tree c.requires.tight room.0 room.1
-        is.pushed is.on c.loop-node-test.true (sym c.in-Some.ensures.label) (amount_some c.args.amount c.ranges.amount c.requires.some) new before in
+    is.pushed is.on c.loop-node-test.true (sym c.in-Some.ensures.label) (amount_some c.args.amount c.ranges.amount c.requires.some) new before in
     record { node = back.inside; pushed = back.pushed; network = c.push.ensures.network; on = back.on }
 
 falls : (labels : List (Option Label)) (node before : ℕ) (first second : Label) → label_at labels node ≡ Some first → label_at labels before ≡ Some second → second.hops < first.hops
@@ -78,7 +77,7 @@ loop-node-smaller c =
     let new = c.push.ensures.pushed ∙ ap (λ b. pushed net (label.number / 2) b amount) c.is_back.ensures in
     let before = c.node_before-node.ensures ∙ ap (λ (s : NetworkState). (arc_both_ways s.network label.number).tail) c.push.ensures.pushed in
     let back = step_back old net c.push.new.self c.args.task labels c.args.end c.loop-node.node c.node_before-node.result amount label c.requires.network is.network c.requires.tree c.requires.tight room.0 room.1
-        is.pushed is.on c.loop-node-test.true (sym c.in-Some.ensures.label) (amount_some c.args.amount c.ranges.amount c.requires.some) new before in
+    is.pushed is.on c.loop-node-test.true (sym c.in-Some.ensures.label) (amount_some c.args.amount c.ranges.amount c.requires.some) new before in
     falls labels c.loop-node.node c.node_before-node.result label back.on.label (sym c.in-Some.ensures.label) back.on.is (back.hops label back.on.label (sym c.in-Some.ensures.label) back.on.is)
 
 pub returns-in-None : goal.returns-in-None

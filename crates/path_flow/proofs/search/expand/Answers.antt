@@ -73,7 +73,7 @@ loop-number-preserved c =
     let searching : IsSearching net c.args.task (IsAmong (get_or items i 0 ∷ drop (i + 1) xs)) c.loop-number.labels =
     subst (λ (l : List ℕ). IsSearching net c.args.task (IsAmong l) c.loop-number.labels) (front xs items i c.out_arcs-number-items.ensures c.loop-number-test.true) is.searching in
     let stepped = step_over net c.args.task c.loop-number.labels c.reach_over.new.labels node (get_or items i 0) (drop (i + 1) xs) c.in-Some.last c.requires.network c.requires.optimal searching is.is_last leave.tail leave.below is.same
-        c.reach_over.ensures.none c.reach_over.ensures.some in
+    c.reach_over.ensures.none c.reach_over.ensures.some in
     record {
       searching = stepped.searching;
       is_last = stepped.is_last;

@@ -61,9 +61,10 @@ loop-node-smaller c =
 
 pub returns-then-is_end : goal.returns-then-is_end
 returns-then-is_end c =
-    let least = c.in-Some.ensures.nearest in
-    (popped_inside c.args.net.now c.args.task c.loop-node.labels c.in-Some.node least.0 c.loop-node.invariant c.in-Some.ensures.size least.1,
-    found_end c.args.net.now c.args.task c.loop-node.labels c.pop_nearest.new.self c.in-Some.node least c.loop-node.invariant c.in-Some.ensures.taken (c.is_end.ensures.0 c.if-is_end.true))
+    let least = c.in-Some.ensures.nearest in (
+      popped_inside c.args.net.now c.args.task c.loop-node.labels c.in-Some.node least.0 c.loop-node.invariant c.in-Some.ensures.size least.1,
+      found_end c.args.net.now c.args.task c.loop-node.labels c.pop_nearest.new.self c.in-Some.node least c.loop-node.invariant c.in-Some.ensures.taken (c.is_end.ensures.0 c.if-is_end.true),
+    )
 
 pub returns : goal.returns
 returns c =

@@ -31,8 +31,8 @@ index_mut-requires-then-is_none c =
     let labels = ap (λ (r : Reach). r.labels) (sym c.self.view_is) in
     let before = read c.self.inside.labels.items c.args.self.now c.args.node c.index.result.now labels c.requires.node c.index.ensures in
     let room = room_for c.self.inside.count (length c.self.inside.reached.items) _ c.self.inside.reached.items c.args.node c.self.invariant refl refl
-        (below_len c.self.inside.labels.items c.args.self.now c.args.node labels c.requires.node)
-        (before ∙ none_of c.index.result.now (c.is_none.ensures ∙ ap (λ b. not b) c.if-is_none.true)) in
+    (below_len c.self.inside.labels.items c.args.self.now c.args.node labels c.requires.node)
+    (before ∙ none_of c.index.result.now (c.is_none.ensures ∙ ap (λ b. not b) c.if-is_none.true)) in
     search (rules, room)
 
 pub overflow_add-self : goal.overflow_add-self
@@ -40,8 +40,8 @@ overflow_add-self c =
     let labels = ap (λ (r : Reach). r.labels) (sym c.self.view_is) in
     let before = read c.self.inside.labels.items c.args.self.now c.args.node c.index.result.now labels c.requires.node c.index.ensures in
     let room = room_for c.self.inside.count (length c.self.inside.reached.items) _ c.self.inside.reached.items c.args.node c.self.invariant refl refl
-        (below_len c.self.inside.labels.items c.args.self.now c.args.node labels c.requires.node)
-        (before ∙ none_of c.index.result.now (c.is_none.ensures ∙ ap (λ b. not b) c.if-is_none.true)) in
+    (below_len c.self.inside.labels.items c.args.self.now c.args.node labels c.requires.node)
+    (before ∙ none_of c.index.result.now (c.is_none.ensures ∙ ap (λ b. not b) c.if-is_none.true)) in
     let few = c.self.invariant.few in
     let long = c.self.invariant.room in
     record { fits = omega (arith, room, few, long) }
