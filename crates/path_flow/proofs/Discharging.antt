@@ -6,8 +6,8 @@ use Rattle.std.proofs.lemmas.Bool.{cases_eq, eq-eqb, ne_eqb}
 use Rattle.std.proofs.Math.Nat.{mul-le-mul_left}
 use Rattle.words.specs.Lists.{total}
 use Rattle.bound_graph.specs.Values.{value_of}
-use Rattle.flow_core.specs.Layout.{FlowNetwork, capacity_numbered, nodes_of, unpriced_capacity}
-use Rattle.flow_core.specs.State.{NetworkState, IsNetwork, flow_on, residual_of}
+use Rattle.flow_core.specs.Layout.{FlowNetwork, nodes_of, unpriced_capacity}
+use Rattle.flow_core.specs.State.{NetworkState, IsNetwork}
 use Rattle.flow_core.proofs.Sizes.{capacity_of_bound}
 use Rattle.std.proofs.lemmas.Bool.{cases_lt}
 use Rattle.path_flow.specs.declared.search.Direction.{Direction}

@@ -1,17 +1,15 @@
 -- One node more is settled, and the nodes after it are reached.
-use Rattle.std.proofs.Common.{◌≡◌, ◌≢◌, ◌⊎◌, ℕ, ◌+◌, ◌/◌, ◌<◌, ◌≤◌, Bool, true, false, cond, ℤ, pos, ◌+ℤ◌, ◌≤ℤ◌, ◌<ℤ◌, List, Option, None, Some, IfSome, length, get_or, set, inl, inr, refl, sym, ap, ◌∙◌, subst, ⊎_elim, arith, get_or-set_same, get_or-set_other}
-use Rattle.std.specs.Prelude.{int_lt}
-use Rattle.std.proofs.lemmas.Int.{ints, by_lt_z}
+use Rattle.std.proofs.Common.{◌≡◌, ◌≢◌, ◌⊎◌, ℕ, ◌+◌, ◌/◌, ◌<◌, Bool, ℤ, pos, ◌+ℤ◌, ◌≤ℤ◌, ◌<ℤ◌, List, Option, None, Some, IfSome, length, get_or, set, inl, inr, refl, sym, ap, ◌∙◌, subst, ⊎_elim, arith, get_or-set_same, get_or-set_other}
+use Rattle.std.proofs.lemmas.Int.{ints}
 use Rattle.std.proofs.lemmas.Bool.{cases_eq}
 use Rattle.std.proofs.lemmas.List.{length-set}
-use Rattle.bound_graph.specs.declared.arc.Arc.{Arc}
-use Rattle.flow_core.specs.Layout.{arc_numbered, nodes_of}
+use Rattle.flow_core.specs.Layout.{arc_numbered}
 use Rattle.flow_core.specs.State.{NetworkState, residual_of}
 use Rattle.node_heap.specs.Keys.{HasLeast}
 use Rattle.path_flow.specs.declared.search.Task.{Task}
 use Rattle.path_flow.specs.declared.search.Label.{Label}
 use Rattle.path_flow.specs.Search.{HasRoom, IsEnd, IsNear, IsReached, IsTree, arc_both_ways, is_odd, label_at, step_length, takes_from, turned}
-use Rattle.path_flow.specs.Reach.{HasDistance, IsKeyed, Reach}
+use Rattle.path_flow.specs.Reach.{HasDistance, Reach}
 use Rattle.path_flow.specs.Searching.{IsLast, IsSearching, IsSettled, StepsFrom, key_at, nothing_left}
 use Rattle.path_flow.proofs.Searching.{distance_of_key, least_at}
 

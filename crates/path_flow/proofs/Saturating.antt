@@ -1,13 +1,13 @@
 -- Arcs saturated, one after the other.
-use Rattle.std.proofs.Common.{◌≡◌, ◌≢◌, ℕ, zero, suc, ◌+◌, ◌*◌, ◌-◌, ◌<◌, ◌≤◌, min, true, false, eqb, ℤ, pos, negsuc, ◌+ℤ◌, ◌-ℤ◌, ◌≤ℤ◌, ◌<ℤ◌, List, length, get_or, set, take, sum, count_by, cond, not, ◌/◌, refl, sym, ap, ◌∙◌, subst, ⊎_elim, arith, get_or-set_same, get_or-set_other, zero-add}
+use Rattle.std.proofs.Common.{◌≡◌, ◌≢◌, ℕ, zero, suc, ◌+◌, ◌*◌, ◌-◌, ◌<◌, ◌≤◌, true, false, eqb, ℤ, pos, negsuc, ◌+ℤ◌, ◌-ℤ◌, ◌≤ℤ◌, ◌<ℤ◌, List, length, get_or, set, take, sum, count_by, cond, not, ◌/◌, refl, sym, ap, ◌∙◌, subst, ⊎_elim, arith, get_or-set_same, get_or-set_other}
 use Rattle.std.proofs.lemmas.Int.{ints}
-use Rattle.std.proofs.lemmas.Bool.{cases_eq, cases_lt, eqb-true, eq-eqb, ne_eqb}
-use Rattle.std.proofs.lemmas.List.{get_or_append_left, get_or-append-add, get_or_past, take_all}
+use Rattle.std.proofs.lemmas.Bool.{cases_eq, cases_lt, eq-eqb, ne_eqb}
+use Rattle.std.proofs.lemmas.List.{get_or_append_left, get_or-append-add, get_or_past}
 use Rattle.std.proofs.lemmas.List.Sums.{count_by_more_no, count_by_more_yes}
 use Rattle.std.specs.Int.{is_positive}
 use Rattle.bound_graph.specs.declared.arc.Arc.{Arc}
 use Rattle.bound_graph.specs.Values.{value_of, RespectsArc, RespectsArcs}
-use Rattle.flow_core.specs.Layout.{FlowNetwork, IsLayout, no_arc, nodes_of, arcs_of, arc_numbered, capacity_numbered, priced_count, reading_arcs, capacity_at_price, unpriced_capacity}
+use Rattle.flow_core.specs.Layout.{FlowNetwork, IsLayout, no_arc, arcs_of, arc_numbered, capacity_numbered, reading_arcs, capacity_at_price, unpriced_capacity}
 use Rattle.flow_core.specs.State.{NetworkState, IsNetwork, flow_on, residual_of, added, pushed}
 use Rattle.flow_core.specs.Views.{bare_arcs}
 use Rattle.flow_core.proofs.Readings.{arc_to_at, arc_from_at}
@@ -16,7 +16,7 @@ use Rattle.words.specs.Lists.{total}
 use Rattle.words.proofs.Sums.{total-set}
 use Rattle.std.proofs.lemmas.List.{length-set}
 use Rattle.std.proofs.lemmas.List.Sums.{sum_by-set, sum_by_more}
-use Rattle.path_flow.specs.Flow.{excess_units, most_units, positive_size}
+use Rattle.path_flow.specs.Flow.{excess_units, positive_size}
 use Rattle.path_flow.proofs.Sums.{positive_less, positive_more}
 use Rattle.path_flow.specs.Steps.{reduced_cost}
 use Rattle.path_flow.specs.Saturation.{HasNoNegative, Saturates, IsSaturated}

@@ -1,5 +1,5 @@
 -- A network without excess and without residual arcs of negative reduced cost is solved.
-use Rattle.std.proofs.Common.{◌≡◌, ℕ, zero, suc, ◌+◌, ◌*◌, ◌-ℤ◌, ◌<◌, Bool, true, false, ◌||◌, eqb, ℤ, pos, ◌≤ℤ◌, ◌≤◌, List, length, get_or, replicate, refl, sym, ap, ◌∙◌, subst, ⊎_elim, arith, zero-add}
+use Rattle.std.proofs.Common.{◌≡◌, ℕ, zero, suc, ◌+◌, ◌*◌, ◌-ℤ◌, ◌<◌, Bool, true, false, ◌||◌, ℤ, pos, ◌≤ℤ◌, ◌≤◌, List, length, get_or, replicate, refl, sym, ap, ◌∙◌, subst, ⊎_elim, arith, zero-add}
 use Rattle.std.proofs.lemmas.Int.{ints}
 use Rattle.std.proofs.lemmas.Bool.{eqb-true, cases_lt}
 use Rattle.std.proofs.lemmas.List.{get_or_append_left, get_or_past, get_or-replicate, length-replicate}

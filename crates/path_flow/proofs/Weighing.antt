@@ -1,19 +1,18 @@
 -- Prices, weights and excesses summed up.
-use Rattle.std.proofs.Common.{◌≡◌, ◌≢◌, ℕ, zero, suc, ◌+◌, ◌*◌, ◌<◌, ◌≤◌, Bool, true, false, cond, not, eqb, ℤ, pos, ◌+ℤ◌, ◌-ℤ◌, ◌≤ℤ◌, List, [], ◌∷◌, Option, None, Some, length, sum, sum_by, take, drop, get_or, refl, sym, ap, ◌∙◌, subst, ⊎_elim, arith}
+use Rattle.std.proofs.Common.{◌≡◌, ◌≢◌, ℕ, zero, suc, ◌+◌, ◌*◌, ◌<◌, ◌≤◌, Bool, true, false, cond, ℤ, pos, List, [], ◌∷◌, None, Some, length, sum, sum_by, take, drop, get_or, refl, sym, ap, ◌∙◌, arith}
 use Rattle.std.specs.Prelude.{unsigned_abs}
-use Rattle.std.proofs.lemmas.Int.{ints}
-use Rattle.std.proofs.lemmas.Bool.{cases_eq, eq-eqb, eqb-true}
+use Rattle.std.proofs.lemmas.Bool.{eq-eqb, eqb-true}
 use Rattle.std.proofs.lemmas.List.{take_all}
 use Rattle.std.proofs.lemmas.List.Sums.{sum_by_more, sum_by-take-le}
 use Rattle.bound_graph.specs.declared.arc.Arc.{Arc}
 use Rattle.bound_graph.specs.Arcs.{arc_at}
 use Rattle.bound_graph.specs.Values.{value_of}
-use Rattle.flow_core.specs.Layout.{FlowNetwork, IsLayout, arcs_of, capacity_numbered, no_arc, unpriced_capacity}
-use Rattle.flow_core.specs.State.{NetworkState, IsNetwork}
+use Rattle.flow_core.specs.Layout.{FlowNetwork, IsLayout, capacity_numbered, unpriced_capacity}
+use Rattle.flow_core.specs.State.{NetworkState}
 use Rattle.flow_core.specs.Views.{bare_arcs, is_bare, there_from}
 use Rattle.flow_core.proofs.BothWays.{there_by_arc}
 use Rattle.flow_core.proofs.Sizes.{capacity_of_bound, prices_small, weights_small}
-use Rattle.path_flow.specs.Flow.{most_units, units_left}
+use Rattle.path_flow.specs.Flow.{most_units}
 use Rattle.path_flow.proofs.Saturating.{priced_capacity}
 
 -- a bound whose arc is not there has a price

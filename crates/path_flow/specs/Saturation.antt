@@ -1,5 +1,5 @@
 -- For proofs: arcs of negative reduced cost, and arcs that are saturated.
-use Rattle.std.specs.Prelude.{◌≡◌, ◌≢◌, ℕ, ◌+◌, ◌<◌, ◌≤◌, ℤ, pos, ◌≤ℤ◌, length, get_or, false}
+use Rattle.std.specs.Prelude.{◌≡◌, ◌≢◌, ℕ, ◌+◌, ◌<◌, ◌≤◌, pos, ◌≤ℤ◌, length, get_or, false}
 use Rattle.words.specs.Lists.{total}
 use Rattle.flow_core.specs.Layout.{arcs_of, capacity_numbered}
 use Rattle.flow_core.specs.State.{NetworkState, flow_on, residual_of}

@@ -1,14 +1,13 @@
-use Rattle.std.proofs.Common.{◌≡◌, ◌≢◌, ◌<◌, ◌/◌, ℕ, ℤ, pos, ◌≤ℤ◌, List, Option, None, Some, w64, to_z, of_z, length, refl, sym, ap, ◌∙◌, subst, arith}
+use Rattle.std.proofs.Common.{◌≡◌, ◌<◌, ◌/◌, ℕ, ℤ, pos, ◌≤ℤ◌, List, Option, Some, w64, to_z, of_z, length, sym, ap, ◌∙◌, subst, arith}
 use Rattle.std.specs.Prelude.{FitsSigned}
 use Rattle.std.proofs.lemmas.Int.{to_z-of_z, ints}
 use Rattle.flow_core.specs.Layout.{FlowNetwork, arcs_of}
 use Rattle.flow_core.specs.State.{NetworkState, pushed, residual_of}
-use Rattle.path_flow.specs.declared.search.Task.{Task}
 use Rattle.path_flow.specs.declared.search.Label.{Label}
 use Rattle.path_flow.specs.Flow.{IsPushed}
 use Rattle.path_flow.specs.Search.{arc_both_ways, is_odd, label_at, takes_from}
 use Rattle.path_flow.proofs.Pathing.{nothing_pushed}
-use Rattle.path_flow.proofs.Tracing.{IsStepBack, at_end, linked_at, room_left, step_back}
+use Rattle.path_flow.proofs.Tracing.{at_end, linked_at, room_left, step_back}
 use Rattle.path_flow.proofs.Trees.{same_label}
 use Rattle.path_flow.proofs.augment.push_along.Invariants.{hops_of}
 use Rattle.path_flow.proofs.augment.push_along.Goals as goal

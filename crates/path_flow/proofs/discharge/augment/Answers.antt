@@ -1,8 +1,7 @@
-use Rattle.std.proofs.Common.{◌≡◌, ℤ, pos, ◌≤ℤ◌, w64, to_z, of_z, not, eqb, sym, ap, ◌∙◌, subst, arith}
+use Rattle.std.proofs.Common.{ℤ, pos, ◌≤ℤ◌, w64, to_z, of_z, sym, ◌∙◌, subst}
 use Rattle.std.specs.Prelude.{unsigned_abs}
 use Rattle.std.proofs.lemmas.Int.{to_z-of_z}
 use Rattle.bound_graph.specs.Values.{value_of}
-use Rattle.path_flow.specs.Flow.{IsAugmented, amount_if}
 use Rattle.path_flow.proofs.Augmenting.{augmented, optimal_pushed}
 use Rattle.path_flow.proofs.Shifting.{rooted_after}
 use Rattle.path_flow.proofs.discharge.augment.Goals as goal

@@ -1,4 +1,4 @@
-use Rattle.std.proofs.Common.{◌≡◌, ◌<◌, ℕ}
+use Rattle.std.proofs.Common.{◌≡◌, ℕ}
 use Rattle.flow_core.specs.Layout.{nodes_of}
 use Rattle.flow_core.specs.State.{IsNetwork}
 use Rattle.path_flow.specs.Flow.{IsLeft}

@@ -1,12 +1,10 @@
-use Rattle.std.proofs.Common.{rules, ◌≡◌, ◌≤◌, ◌<◌, ◌^◌, Bool, true, false, true≢false, ℕ, ℤ, pos, ◌+ℤ◌, ◌≤ℤ◌, ◌<ℤ◌, w64, to_z, of_z, length, sym, ap, ◌∙◌, subst, arith}
+use Rattle.std.proofs.Common.{rules, ◌≡◌, ◌≤◌, ◌^◌, Bool, true, false, true≢false, ℤ, pos, ◌+ℤ◌, ◌≤ℤ◌, ◌<ℤ◌, w64, to_z, of_z, sym, ◌∙◌, subst}
 use Rattle.std.specs.Prelude.{unsigned_abs, FitsSigned, IsTrue}
-use Rattle.std.proofs.lemmas.Int.{to_z-of_z, ints, by_lt_z}
+use Rattle.std.proofs.lemmas.Int.{to_z-of_z, by_lt_z}
 use Rattle.bound_graph.specs.Values.{value_of}
-use Rattle.flow_core.specs.Layout.{FlowNetwork}
-use Rattle.flow_core.specs.State.{NetworkState}
 use Rattle.path_flow.specs.declared.search.Direction.{Direction}
 use Rattle.path_flow.specs.declared.search.Task.{Task}
-use Rattle.path_flow.specs.Flow.{HasSign, IsAugmented, IsLeft}
+use Rattle.path_flow.specs.Flow.{HasSign, IsLeft}
 use Rattle.path_flow.proofs.Augmenting.{spare_small, gain_small}
 use Rattle.path_flow.proofs.Discharging.{left_after, source_less, free_left, end_there}
 use Rattle.path_flow.proofs.discharge.discharge_once.Goals as goal

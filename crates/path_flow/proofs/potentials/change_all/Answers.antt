@@ -1,16 +1,15 @@
-use Rattle.std.proofs.Common.{◌≡◌, ◌≤◌, ◌<◌, ◌^◌, ◌*◌, ◌+◌, ◌-ℤ◌, ℕ, ℤ, pos, List, Option, to_z, of_z, get_or, set, length, refl, sym, ap, ◌∙◌, subst, arith}
+use Rattle.std.proofs.Common.{◌≡◌, ◌≤◌, ◌<◌, ◌^◌, ◌*◌, ◌+◌, ◌-ℤ◌, ℕ, ℤ, List, Option, to_z, of_z, sym, ap, ◌∙◌, subst, arith}
 use Rattle.std.specs.Prelude.{unsigned_abs, FitsSigned}
 use Rattle.std.specs.Int.{w128}
 use Rattle.std.proofs.lemmas.Int.{to_z-of_z}
 use Rattle.bound_graph.specs.Values.{value_of}
 use Rattle.flow_core.specs.declared.limits.TheConstants.{MOST_VALUE}
 use Rattle.flow_core.specs.Layout.{FlowNetwork, nodes_of}
-use Rattle.flow_core.specs.State.{NetworkState, IsNetwork}
+use Rattle.flow_core.specs.State.{NetworkState}
 use Rattle.path_flow.specs.declared.search.Direction.{Direction}
 use Rattle.path_flow.specs.declared.search.Label.{Label}
 use Rattle.path_flow.specs.Search.{label_at, nearer, potential_after, signed}
-use Rattle.path_flow.specs.Steps.{ChangesPotentials}
-use Rattle.path_flow.proofs.Moving.{IsMovedBelow, first_moved, next_moved, zero_after}
+use Rattle.path_flow.proofs.Moving.{IsMovedBelow, first_moved, next_moved}
 use Rattle.path_flow.proofs.Starting.{changes_none, set_changes}
 use Rattle.path_flow.proofs.potentials.change_all.Goals as goal
 

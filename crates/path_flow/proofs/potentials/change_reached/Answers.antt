@@ -11,7 +11,6 @@ use Rattle.flow_core.specs.State.{NetworkState, IsNetwork}
 use Rattle.path_flow.specs.declared.search.Direction.{Direction}
 use Rattle.path_flow.specs.declared.search.Label.{Label}
 use Rattle.path_flow.specs.Search.{label_at, nearer, potential_after, signed}
-use Rattle.path_flow.specs.Steps.{ChangesPotentials}
 use Rattle.path_flow.proofs.Moving.{IsPartly, none_moved, one_moved, untouched, value_by, zero_after, all_moved}
 use Rattle.path_flow.proofs.Starting.{changes_none, set_changes}
 use Rattle.path_flow.proofs.Views.{all_get}

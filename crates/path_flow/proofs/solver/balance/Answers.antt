@@ -1,7 +1,7 @@
-use Rattle.std.proofs.Common.{◌≡◌, ◌≤◌, ◌+◌, ◌*◌, ℕ, ℤ, pos, ◌-ℤ◌, to_z, of_z, w64, length, sym, ap, ◌∙◌, subst, arith}
+use Rattle.std.proofs.Common.{◌≡◌, ◌+◌, ◌*◌, to_z, of_z, w64, length, ap, ◌∙◌, arith}
 use Rattle.std.proofs.lemmas.Int.{to_z-of_z}
 use Rattle.flow_core.specs.Layout.{FlowNetwork}
-use Rattle.path_flow.specs.Flow.{IsLeft, most_units}
+use Rattle.path_flow.specs.Flow.{most_units}
 use Rattle.path_flow.proofs.Solved.{first_left, few_units}
 use Rattle.path_flow.proofs.solver.balance.Goals as goal
 

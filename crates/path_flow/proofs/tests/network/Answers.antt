@@ -1,8 +1,8 @@
-use Rattle.std.proofs.Common.{◌≡◌, ◌≤◌, ◌++◌, ◌^◌, ◌+◌, ℕ, ℤ, List, [], ◌∷◌, length, refl, w64, to_z, of_z, ap, sym, ◌∙◌, arith}
+use Rattle.std.proofs.Common.{◌≡◌, ◌++◌, ◌+◌, ℕ, List, [], ◌∷◌, length, refl, w64, ap, ◌∙◌, arith}
 use Rattle.std.proofs.lemmas.Int.{to_z-of_z}
 use Rattle.std.proofs.lemmas.List.{length_push}
 use Rattle.screen_model.specs.declared.bound.Bound.{Bound}
-use Rattle.path_flow.proofs.Examples.{between, no_readings, one_bound_more, one_reading_more, same_readings, end_is}
+use Rattle.path_flow.proofs.Examples.{between, one_bound_more, one_reading_more, same_readings, end_is}
 use Rattle.path_flow.proofs.tests.network.Goals as goal
 
 one_more : (xs new : List Bound) (x : Bound) → new ≡ xs ++ x ∷ [] → length new ≡ length xs + 1

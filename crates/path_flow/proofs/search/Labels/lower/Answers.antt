@@ -1,12 +1,11 @@
-use Rattle.std.proofs.Common.{arith, sym, ap, refl, not, slice_index_or, ◌∙◌, ◌<◌, ◌++◌, ◌+◌, [], ◌∷◌, FitsSigned, rules, to_z, of_z, ℕ, ℤ, ◌≡◌, List, Option, Some, None, true, false, IfSome, length, set, take, subst}
+use Rattle.std.proofs.Common.{arith, sym, ap, refl, not, slice_index_or, ◌∙◌, ◌<◌, FitsSigned, rules, to_z, of_z, ℕ, ℤ, ◌≡◌, List, Option, Some, None, IfSome, length, set, take, subst}
 use Rattle.std.specs.Int.{w128}
-use Rattle.std.specs.Prelude.{is_some}
-use Rattle.std.proofs.lemmas.Int.{to_z-of_z, ints}
+use Rattle.std.proofs.lemmas.Int.{to_z-of_z}
 use Rattle.std.proofs.lemmas.List.{length-set, take_more_set}
 use Rattle.path_flow.specs.declared.search.Label.{Label}
-use Rattle.path_flow.specs.Reach.{HasDistance, IsReach, Reach, is_better, lowered}
+use Rattle.path_flow.specs.Reach.{HasDistance, Reach, lowered}
 use Rattle.path_flow.specs.Search.{label_at}
-use Rattle.path_flow.proofs.Reaching.{room_for, read_is, key_falls, none_of, some_of, reach_more, reach_again, lowered_first, lowered_again}
+use Rattle.path_flow.proofs.Reaching.{room_for, read_is, key_falls, none_of, some_of, reach_more, reach_again, lowered_first}
 use Rattle.path_flow.proofs.search.Labels.lower.Goals as goal
 
 -- the label that was read, and the reach as it was
