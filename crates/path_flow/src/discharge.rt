@@ -88,7 +88,7 @@ fn discharge_once(net: &mut Network, labels: &mut Labels, node: u32, spare: i64)
     let task = Task {
         source: node,
         direction: direction_of(net.excess(node)),
-        ends_at_zero: is_some_or_none(spare),
+        ends_at_zero: is_not_negative(spare),
     };
     match augment(net, task, labels) {
         Some(gain) => plus(spare, gain),
@@ -97,7 +97,7 @@ fn discharge_once(net: &mut Network, labels: &mut Labels, node: u32, spare: i64)
 }
 
 /// Whether a number of units is not below 0.
-fn is_some_or_none(units: i64) -> bool
+fn is_not_negative(units: i64) -> bool
     ensures { IsTrue result ↔ (pos 0 ≤ℤ units) }
 {
     units >= 0

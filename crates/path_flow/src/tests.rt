@@ -16,9 +16,6 @@ use std::test::Fail;
 /// 10^15, the range of every reading.
 const RANGE: i64 = 1_000_000_000_000_000;
 
-/// What the 2,000 readings that are drawn cost, as another program found it, by the network simplex method.
-const LEAST_OF_TWO_THOUSAND: i128 = 117_706;
-
 /// A bound by the nodes of its ends, its limit and its price.
 #[derive(Clone, Copy)]
 struct PricedBound {
@@ -69,16 +66,15 @@ fn at_most(number: u32, most: u32) -> u32
     number.min(most)
 }
 
-/// A network of readings with these values and weights, with their ranges and with these bounds.
+/// A network of readings, each of a value and a weight, with their ranges and with these bounds.
 fn network(
     alloc: Global,
-    values: &[i64],
-    weights: &[u32],
+    readings: &[(i64, u32)],
     lines: &[PricedBound],
 ) -> Result<Network, AllocError>
     ensures { IfOk result IsNew }
 {
-    let count = values.len().min(2_000) as u32;
+    let count = readings.len().min(2_000) as u32;
     let mut places = Places::new(alloc);
     let mut series = Series::new(alloc);
     let mut kept = Sequence::new(alloc);
@@ -86,9 +82,10 @@ fn network(
     let mut prices = Sequence::new(alloc);
     for i in 0..count {
         let place = Place { row: i + 1, col: 2 };
+        let (value, weight) = readings.get(i as usize).copied().unwrap_or((0, 0));
         places.push(place)?;
-        series.push(within_range(values.get(i as usize).copied().unwrap_or(0)))?;
-        kept.push(at_most(weights.get(i as usize).copied().unwrap_or(0), 1_000))?;
+        series.push(within_range(value))?;
+        kept.push(at_most(weight, 1_000))?;
         bounds.push(bound(End::Zero, End::At(place), RANGE))?;
         bounds.push(bound(End::At(place), End::Zero, RANGE))?;
         prices.push(0)?;
@@ -100,14 +97,8 @@ fn network(
         bounds.push(bound(first, second, within_range(line.limit)))?;
         prices.push(at_most(line.price, 1_000))?;
     }
-    Network::new(
-        alloc,
-        &series,
-        kept.as_slice(),
-        prices.as_slice(),
-        &bounds,
-        &places,
-    )
+    let weights = kept.as_slice();
+    Network::new(alloc, &series, weights, prices.as_slice(), &bounds, &places)
 }
 
 /// Solves a network, and looks at what is promised of it. Answers its value, or none where no series obeys.
@@ -181,14 +172,14 @@ fn draw(state: &mut u64, bound: u64) -> u64
 }
 
 /// The least cost of a series of values from -7 to 7 that obeys, by a look at each; none where there is none.
-fn least_cost(values: &[i64], weights: &[u32], lines: &[PricedBound]) -> Option<i64> {
+fn least_cost(readings: &[(i64, u32)], lines: &[PricedBound]) -> Option<i64> {
     let mut all = 1u64;
-    for _ in values {
+    for _ in readings {
         all = all.wrapping_mul(15);
     }
     let mut least = None;
     for code in 0..all {
-        if let Some(cost) = cost_of(code, values, weights, lines) {
+        if let Some(cost) = cost_of(code, readings, lines) {
             least = match least {
                 Some(before) if before <= cost => Some(before),
                 _ => Some(cost),
@@ -199,9 +190,9 @@ fn least_cost(values: &[i64], weights: &[u32], lines: &[PricedBound]) -> Option<
 }
 
 /// What a series costs, or none where it does not obey.
-fn cost_of(code: u64, values: &[i64], weights: &[u32], lines: &[PricedBound]) -> Option<i64> {
+fn cost_of(code: u64, readings: &[(i64, u32)], lines: &[PricedBound]) -> Option<i64> {
     let mut cost = 0i64;
-    for (i, (value, weight)) in values.iter().zip(weights).enumerate() {
+    for (i, (value, weight)) in readings.iter().enumerate() {
         let change = value_at(code, i + 1).wrapping_sub(*value).wrapping_abs();
         cost = cost.wrapping_add(change.wrapping_mul(i64::from(*weight)));
     }
@@ -236,41 +227,33 @@ fn solve_drawn(
     rt: &impl Abort,
     alloc: Global,
     state: &mut u64,
-    readings: u64,
+    most_readings: u64,
 ) -> Result<(), AllocError>
-    requires some { 0 < readings }
-    requires few { readings ≤ 12 }
+    requires some { 0 < most_readings }
+    requires few { most_readings ≤ 12 }
 {
-    let count = 1 + draw(state, readings);
-    let mut values = Vec::new(alloc);
-    let mut weights = Vec::new(alloc);
+    let count = 1 + draw(state, most_readings);
+    let mut readings = Vec::new(alloc);
     let mut lines = Vec::new(alloc);
     let mut most = count;
     for _ in 0..count {
         let weight = draw(state, 3);
-        values.push(draw(state, 7) as i64 - 3)?;
-        weights.push(weight as u32)?;
+        readings.push((draw(state, 7) as i64 - 3, weight as u32))?;
         most = most.wrapping_add(weight.wrapping_mul(count));
     }
     for _ in 0..draw(state, 9) {
         let price = draw(state, 4);
-        lines.push(PricedBound {
-            tail: draw(state, count + 1) as u32,
-            head: draw(state, count + 1) as u32,
-            limit: draw(state, 5) as i64 - 2,
-            price: price as u32,
-        })?;
+        let tail = draw(state, count + 1) as u32;
+        let head = draw(state, count + 1) as u32;
+        lines.push(line(tail, head, draw(state, 5) as i64 - 2, price as u32))?;
         most = most
             .wrapping_add(price.wrapping_mul(count))
             .wrapping_add(price.min(1));
     }
-    let mut net = network(alloc, &values, &weights, &lines)?;
+    let mut net = network(alloc, &readings, &lines)?;
     let value = solved(rt, alloc, &mut net, most)?;
     if count < 4 {
-        assert_eq!(rt;
-            value,
-            least_cost(&values, &weights, &lines).map(i128::from)
-        );
+        assert_eq!(rt; value, least_cost(&readings, &lines).map(i128::from));
     }
     Ok(())
 }
@@ -289,13 +272,12 @@ fn drawn_networks_cost_least(rt: HostRuntime) -> Result<(), Fail> {
 fn costs(
     rt: &impl Abort,
     alloc: Global,
-    values: &[i64],
-    weights: &[u32],
+    readings: &[(i64, u32)],
     lines: &[PricedBound],
     most: u64,
     cost: Option<i128>,
 ) -> Result<(), AllocError> {
-    let mut net = network(alloc, values, weights, lines)?;
+    let mut net = network(alloc, readings, lines)?;
     assert_eq!(rt; solved(rt, alloc, &mut net, most)?, cost);
     Ok(())
 }
@@ -310,67 +292,32 @@ fn line(tail: u32, head: u32, limit: i64, price: u32) -> PricedBound {
 }
 
 #[test]
-fn few_readings_cost_least(rt: HostRuntime) -> Result<(), Fail> {
+fn no_reading_and_one_cost_least(rt: HostRuntime) -> Result<(), Fail> {
     let alloc = rt.alloc();
-    costs(&rt, alloc, &[], &[], &[], 0, Some(0))?;
-    costs(&rt, alloc, &[], &[], &[line(0, 0, -1, 5)], 1, Some(5))?;
-    costs(&rt, alloc, &[], &[], &[line(0, 0, -1, 0)], 0, None)?;
-    costs(&rt, alloc, &[70], &[1], &[line(0, 1, 50, 1)], 4, Some(20))?;
-    costs(
-        &rt,
-        alloc,
-        &[70],
-        &[1_000],
-        &[line(0, 1, 50, 3)],
-        1_005,
-        Some(60),
-    )?;
-    costs(
-        &rt,
-        alloc,
-        &[70],
-        &[1_000],
-        &[line(0, 1, 50, 0)],
-        1_001,
-        Some(20_000),
-    )?;
-    costs(
-        &rt,
-        alloc,
-        &[0, 100],
-        &[5, 5],
-        &[line(1, 2, 1, 1)],
-        25,
-        Some(99),
-    )?;
-    costs(
-        &rt,
-        alloc,
-        &[0, 0],
-        &[1, 1],
-        &[line(1, 2, 1, 0), line(2, 1, -1, 0)],
-        6,
-        Some(1),
-    )?;
-    costs(
-        &rt,
-        alloc,
-        &[0, 0],
-        &[1, 1],
-        &[line(1, 2, 1, 0), line(2, 1, -2, 0)],
-        0,
-        None,
-    )?;
+    costs(&rt, alloc, &[], &[], 0, Some(0))?;
+    costs(&rt, alloc, &[], &[line(0, 0, -1, 5)], 1, Some(5))?;
+    costs(&rt, alloc, &[], &[line(0, 0, -1, 0)], 0, None)?;
+    let high = [line(0, 1, 50, 1)];
+    costs(&rt, alloc, &[(70, 1)], &high, 4, Some(20))?;
+    let priced = [line(0, 1, 50, 3)];
+    costs(&rt, alloc, &[(70, 1_000)], &priced, 1_005, Some(60))?;
+    let free = [line(0, 1, 50, 0)];
+    costs(&rt, alloc, &[(70, 1_000)], &free, 1_001, Some(20_000))?;
+    Ok(())
+}
+
+#[test]
+fn two_readings_cost_least(rt: HostRuntime) -> Result<(), Fail> {
+    let alloc = rt.alloc();
+    let priced = [line(1, 2, 1, 1)];
+    costs(&rt, alloc, &[(0, 5), (100, 5)], &priced, 25, Some(99))?;
+    let one_apart = [line(1, 2, 1, 0), line(2, 1, -1, 0)];
+    costs(&rt, alloc, &[(0, 1), (0, 1)], &one_apart, 6, Some(1))?;
+    let never = [line(1, 2, 1, 0), line(2, 1, -2, 0)];
+    costs(&rt, alloc, &[(0, 1), (0, 1)], &never, 0, None)?;
     let equal = [line(1, 2, 0, 0), line(2, 1, 0, 0)];
-    costs(
-        &rt,
-        alloc,
-        &[RANGE, -RANGE],
-        &[1, 1],
-        &equal,
-        6,
-        Some(2_000_000_000_000_000),
-    )?;
+    let far = [(RANGE, 1), (-RANGE, 1)];
+    costs(&rt, alloc, &far, &equal, 6, Some(2_000_000_000_000_000))?;
     Ok(())
 }
 
@@ -383,34 +330,27 @@ fn four_readings_take_at_most_twenty_changes(rt: HostRuntime) -> Result<(), Fail
             lines.push(line(second, first, i64::from(second - first), 0))?;
         }
     }
-    costs(
-        &rt,
-        rt.alloc(),
-        &[10, 11, 20, 13],
-        &[1; 4],
-        &lines,
-        20,
-        Some(8),
-    )?;
+    let readings = [(10, 1), (11, 1), (20, 1), (13, 1)];
+    costs(&rt, rt.alloc(), &readings, &lines, 20, Some(8))?;
     Ok(())
 }
+
+/// What the 2,000 readings below cost, as another program found it, by the network simplex method.
+const LEAST_OF_TWO_THOUSAND: i128 = 117_706;
 
 #[test]
 fn two_thousand_readings_cost_least(rt: HostRuntime) -> Result<(), Fail> {
     let mut state = 11;
     let mut level = 0i64;
-    let mut values = Vec::new(rt.alloc());
-    let mut weights = Vec::new(rt.alloc());
+    let mut readings = Vec::new(rt.alloc());
     let mut lines = Vec::new(rt.alloc());
     for _ in 0..2_000 {
         level = level.wrapping_add(draw(&mut state, 7) as i64 - 3);
-        let is_noise = draw(&mut state, 20) == 0;
-        values.push(if is_noise {
-            draw(&mut state, 2_001) as i64 - 1_000
-        } else {
-            level
-        })?;
-        weights.push(1 + draw(&mut state, 3) as u32)?;
+        let mut value = level;
+        if draw(&mut state, 20) == 0 {
+            value = draw(&mut state, 2_001) as i64 - 1_000;
+        }
+        readings.push((value, 1 + draw(&mut state, 3) as u32))?;
     }
     for node in 1..2_000 {
         lines.push(line(node, node + 1, 4, 0))?;
@@ -420,14 +360,7 @@ fn two_thousand_readings_cost_least(rt: HostRuntime) -> Result<(), Fail> {
             lines.push(line(node + 2, node, 6, 1))?;
         }
     }
-    costs(
-        &rt,
-        rt.alloc(),
-        &values,
-        &weights,
-        &lines,
-        15_965_996,
-        Some(LEAST_OF_TWO_THOUSAND),
-    )?;
+    let cost = Some(LEAST_OF_TWO_THOUSAND);
+    costs(&rt, rt.alloc(), &readings, &lines, 15_965_996, cost)?;
     Ok(())
 }
