@@ -369,10 +369,6 @@ end_there net task is whole sign = ⊎_elim
     (λ (none : HasNone task.direction net.excesses). absurd (none_opposed task.direction net.excesses task.source whole sign none))
     (find_opposed task.direction net.excesses)
 
-pub sign_not_zero : (direction : Direction) (z : ℤ) → HasSign direction z → z ≢ pos 0
-sign_not_zero Forwards z sign none = absurd (omega (arith, ints, none, sign))
-sign_not_zero Backwards z sign none = absurd (omega (arith, ints, none, sign))
-
 -- ---- one reading after the other
 
 pub one_done : (network : FlowNetwork) (bound : ℕ) (net : NetworkState) (spare : ℤ) (node : ℕ) → value_of net.excesses node ≡ pos 0 → IsLeft network bound net spare node → IsLeft network bound net spare (node + 1)

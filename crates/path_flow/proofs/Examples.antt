@@ -50,23 +50,6 @@ pub record AreReadings (count : ℕ) (places : List Place) (values : List ℤ) (
   pub prices_small : AllByRecursion (λ price. price ≤ MOST_PRICE) prices
   pub limits_small : AllByRecursion (λ bound. unsigned_abs bound.limit ≤ 4 * 10 ^ 15) bounds
 
-pub no_readings : AreReadings 0 [] [] [] [] []
-no_readings = record {
-  before = tt;
-  distinct = tt;
-  placed = refl;
-  each = λ i below. absurd (omega arith);
-  valued = refl;
-  weighted = refl;
-  priced = refl;
-  ends = tt;
-  ranged = tt;
-  values_small = tt;
-  weights_small = tt;
-  prices_small = tt;
-  limits_small = tt;
-}
-
 -- ---- one bound more
 
 with_prices_push : (bounds : List Bound) (prices : List ℕ) (bound : Bound) (price : ℕ) → length prices ≡ length bounds

@@ -222,27 +222,3 @@ all_left labels reached labelled = record {
       [ None ↦ λ h. tt | Some l ↦ λ h. (h.0, omega arith, h.1, get_or_any reached h.0 x h.1 h.2) ] in
       step (label_at labels x) (labelled x);
 }
-
--- ---- no node is reached
-
-none_at_all : (nodes x : ℕ) → label_at (replicate nodes None) x ≡ None
-none_at_all nodes x = ⊎_elim
-    (λ (below : x < nodes). get_or-replicate nodes x None None below)
-    (λ (past : nodes ≤ x). get_or_past (replicate nodes None) x None (omega (arith, past, length-replicate {A = Option Label} nodes None)))
-    (cases_lt x nodes)
-
-pub nothing_is_reach : (nodes long : ℕ) (keys : List (Option ℤ)) (items : List ℕ) → nodes < 2 ^ 32 → long ≡ nodes → keys ≡ replicate nodes None
-    → IsReach 0 long (record { labels = replicate nodes None; keys = keys; reached = take 0 items })
-nothing_is_reach nodes long keys items few room same =
-    let size = length-replicate {A = Option Label} nodes None in
-    let key_size = ap (λ (l : List (Option ℤ)). length l) same ∙ length-replicate {A = Option ℤ} nodes None in
-    record {
-      keyed = omega (arith, size, key_size);
-      room = omega (arith, size, room);
-      few = omega (arith, size, few);
-      within = omega arith;
-      nodes = tt;
-      distinct = tt;
-      labelled = λ x. subst (λ (option : Option Label). IfSome option (λ l. Contains [] x)) (sym (none_at_all nodes x)) tt;
-      fresh = λ x none has. contains_none x has;
-    }

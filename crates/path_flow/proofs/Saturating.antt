@@ -43,13 +43,6 @@ kept net arc done = record {
   whole = refl;
 }
 
--- an arc on which nothing flows and that has no room
-pub full_done : (net : NetworkState) (arc : ℕ) → flow_on net arc ≡ pos 0 → residual_of net arc false ≤ℤ pos 0 → HasNoNegative net arc
-full_done net arc empty full = record {
-  ahead = λ room. absurd (omega (arith, ints, room, full));
-  back = λ some. absurd (omega (arith, ints, some, empty));
-}
-
 -- a push takes from one node what it brings to another
 whole_pushed : (net : NetworkState) (arc : ℕ) (amount : ℤ) → IsNetwork net → arc < length (arcs_of net.network) → total (pushed net arc false amount).excesses ≡ total net.excesses
 whole_pushed net arc amount is below =
@@ -126,15 +119,6 @@ one_arc_more first old new arc so_far step free = record {
       ap (λ (net : NetworkState). flow_on net k) same ∙ so_far.rest k (omega (arith, e)))
       (λ (other : k ≢ arc). step.others k other ∙ so_far.free k (ap (λ (n : FlowNetwork). get_or n.prices k 1) (sym step.network) ∙ none))
       (cases_eq k arc);
-}
-
-pub none_yet : (net : NetworkState) → ((k : ℕ) → flow_on net k ≡ pos 0) → IsSaturated 0 net net
-none_yet net empty = record {
-  network = refl;
-  potentials = refl;
-  done = λ k below. absurd (omega arith);
-  rest = λ k above. empty k;
-  free = λ k none. empty k;
 }
 
 -- seen from where it was in between
@@ -215,16 +199,6 @@ above_zero (negsuc n) test = absurd cc
 pub zero_price : (unpriced price : ℕ) → price ≡ 0 → capacity_at_price unpriced price ≡ unpriced
 zero_price unpriced zero free = refl
 zero_price unpriced (suc price) free = absurd (omega (arith, free))
-
--- where nothing flows on bounds without a price, more can flow on each
-pub all_free : (net : NetworkState) → IsNetwork net → ((k : ℕ) → get_or net.network.prices k 1 ≡ 0 → flow_on net k ≡ pos 0) → AreFree net
-all_free net is empty k free = ⊎_elim
-    (λ (below : k < length net.network.prices).
-    let capacity = capacity_of_bound net.network k below ∙ zero_price (unpriced_capacity net.network) (get_or net.network.prices k 1) free in
-    let none = empty k free in
-    omega (arith, ints, capacity, none))
-    (λ (past : length net.network.prices ≤ k). absurd (past_bounds net k past free))
-    (cases_lt k (length net.network.prices))
 
 -- ---- the units that are saturated
 

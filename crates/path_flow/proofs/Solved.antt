@@ -61,21 +61,12 @@ zero_in n k = ⊎_elim
     (λ (past : n ≤ k). get_or_past (replicate n (pos 0)) k (pos 0) (omega (arith, past, length-replicate n (pos 0))))
     (cases_lt k n)
 
-pub new_is_empty : (net : NetworkState) → IsNew net → (arc : ℕ) → flow_on net arc ≡ pos 0
-new_is_empty net new arc = ap (λ (state : NetworkState). flow_on state arc) new ∙ zero_in (length (arcs_of net.network)) arc
-
-pub new_is_unchanged : (net : NetworkState) → IsNew net → net.changes ≡ 0
-new_is_unchanged net new = ap (λ (state : NetworkState). state.changes) new
-
 zeroes : (n : ℕ) → total (replicate n (pos 0)) ≡ pos 0
 zeroes zero = refl
 zeroes (suc n) = let rest = zeroes n in omega (arith, ints, rest)
 
 pub new_is_whole : (net : NetworkState) → IsNew net → total net.excesses ≡ pos 0
 new_is_whole net new = ap (λ (state : NetworkState). total state.excesses) new ∙ zeroes (nodes_of net.network)
-
-pub new_is_balanced : (net : NetworkState) → IsNew net → excess_units net ≡ 0
-new_is_balanced net new = ap excess_units new ∙ sum_by-replicate positive_size (nodes_of net.network) (pos 0) ∙ omega arith
 
 -- ---- before the first search
 

@@ -41,14 +41,6 @@ same_bare old new same = ap (λ network. bare_arcs (record old { network = netwo
 pub changes_none : (net : NetworkState) → ChangesPotentials net net
 changes_none net = record { network = refl; flows = refl; excesses = refl; changes = refl }
 
-pub changes_more : (old middle new : NetworkState) → ChangesPotentials old middle → ChangesPotentials middle new → ChangesPotentials old new
-changes_more old middle new first second = record {
-  network = second.network ∙ first.network;
-  flows = second.flows ∙ first.flows;
-  excesses = second.excesses ∙ first.excesses;
-  changes = second.changes ∙ first.changes;
-}
-
 pub set_changes : (old middle new : NetworkState) (potentials : List ℤ) → ChangesPotentials old middle → new ≡ record middle { potentials = potentials } → ChangesPotentials old new
 set_changes old middle new potentials first set = record {
   network = ap (λ (net : NetworkState). net.network) set ∙ first.network;

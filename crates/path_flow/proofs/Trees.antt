@@ -58,10 +58,6 @@ distance_in net task labels network all tree (suc n) node label is hops = ⊎_el
     (omega (arith, ints, before.0, low, reached.distance), omega (arith, ints, before.1, high.1, reached.distance)))
     (cases_eq node task.source)
 
-pub distance_low : (net : NetworkState) (task : Task) (labels : List (Option Label)) (node : ℕ) (label : Label) → IsNetwork net → ((k : ℕ) → k < length (arcs_of net.network) → HasNoNegative net k) → IsTree net task labels
-    → label_at labels node ≡ Some label → pos 0 ≤ℤ label.distance
-distance_low net task labels node label network all tree is = (distance_in net task labels network all tree label.hops node label is refl).0
-
 few_nodes : (net : NetworkState) → IsNetwork net → nodes_of net.network ≤ 400001
 few_nodes net network = let few = network.layout.few_readings in omega (arith, few)
 

@@ -46,19 +46,11 @@ price_is network k layout below priced = capacity_of_bound network k (omega (ari
 
 -- ---- sums so far
 
-pub sum_more : (xs : List ℕ) (i d so_far x : ℕ) → i < length xs → so_far ≡ sum (take i xs) → x ≡ get_or xs i d → so_far + x ≡ sum (take (i + 1) xs)
-sum_more xs i d so_far x below is here =
-    let more = sum_by_more (λ (n : ℕ). n) xs i d below in
-    omega (arith, is, here, more)
-
 pub sum_within : (xs : List ℕ) (i d bound : ℕ) → i < length xs → sum xs ≤ bound → sum (take i xs) + get_or xs i d ≤ bound
 sum_within xs i d bound below few =
     let more = sum_by_more (λ (n : ℕ). n) xs i d below in
     let less = sum_by-take-le (λ (n : ℕ). n) xs (i + 1) in
     omega (arith, more, less, few)
-
-pub sum_whole : (xs : List ℕ) (i : ℕ) → length xs ≤ i → sum (take i xs) ≡ sum xs
-sum_whole xs i all = ap sum (take_all i xs all)
 
 rest_long : (xs : List ℤ) (i : ℕ) → i + 1 < length xs → i < length (drop 1 xs)
 rest_long [] i below = absurd (omega (arith, below))
@@ -87,9 +79,6 @@ units_within xs i bound below few =
     let less = sum_by-take-le unsigned_abs (drop 1 xs) (i + 1) in
     let same = ap unsigned_abs (later_at xs i) in
     omega (arith, more, less, few, same)
-
-pub units_whole : (xs : List ℤ) (i : ℕ) → length xs ≤ i + 1 → sum_by unsigned_abs (take i (drop 1 xs)) ≡ sum_by unsigned_abs (drop 1 xs)
-units_whole xs i all = ap (sum_by unsigned_abs) (take_all i (drop 1 xs) (rest_short xs i all))
 
 pub most_small : (network : FlowNetwork) → IsLayout network → most_units network ≤ 4400000000
 most_small network layout = omega (arith, prices_small network layout, weights_small network layout)

@@ -1,5 +1,5 @@
 //! All excess moved to where there is a deficit.
-ghost use Rattle.std.specs.Prelude.{◌≡◌, ◌≢◌, ◌≤◌, ◌<◌, ◌+◌, ◌*◌, ◌^◌, ◌↔◌, ◌==◌, not, true, false, ℕ, pos, ◌+ℤ◌, ◌≤ℤ◌, IsTrue, MatchOption, Some, length, unsigned_abs};
+ghost use Rattle.std.specs.Prelude.{◌≡◌, ◌≢◌, ◌≤◌, ◌<◌, ◌+◌, ◌^◌, ◌↔◌, ◌==◌, not, true, false, ℕ, pos, ◌+ℤ◌, ◌≤ℤ◌, IsTrue, MatchOption, Some, length, unsigned_abs};
 ghost use Rattle.bound_graph.specs.Values.{value_of};
 ghost use Rattle.flow_core.specs.Laws.{IsBalancedAtReadings};
 ghost use Rattle.flow_core.specs.Layout.{nodes_of};

@@ -2,7 +2,7 @@
 ghost use Rattle.std.specs.Prelude.{◌≡◌, ◌≤◌, ◌<◌, ◌+◌, ◌*◌, ◌^◌, ◌↔◌, ℕ, pos, ◌+ℤ◌, ◌-ℤ◌, ◌<ℤ◌, get_or, length, sum, unsigned_abs, IsTrue};
 ghost use Rattle.words.specs.Lists.{total};
 ghost use Rattle.bound_graph.specs.Values.{RespectsArcs};
-ghost use Rattle.flow_core.specs.Layout.{arcs_of, nodes_of, priced_count};
+ghost use Rattle.flow_core.specs.Layout.{arcs_of, priced_count};
 ghost use Rattle.flow_core.specs.State.{IsNetwork, flow_on};
 ghost use Rattle.flow_core.specs.Views.{bare_arcs};
 ghost use Rattle.path_flow.specs.Flow.{excess_units, most_units};

@@ -2,7 +2,6 @@
 ghost use Rattle.std.specs.Prelude.{◌≡◌, ◌≢◌, ◌≤◌, ◌<◌, ◌*◌, ◌/◌, ◌^◌, ◌↔◌, ℕ, ℤ, pos, ◌-ℤ◌, unsigned_abs, length, replicate, slice_set, All, IsTrue, IsNone, None, Some, MatchOption, IfOk, IfSome, Contains};
 ghost use Rattle.std.specs.List.{AllByRecursion};
 ghost use Rattle.words.specs.Lists.{Distinct};
-ghost use Rattle.bound_graph.specs.Graph.{leaving};
 ghost use Rattle.bound_graph.specs.Values.{value_of};
 ghost use Rattle.flow_core.specs.Layout.{arcs_of, nodes_of};
 ghost use Rattle.flow_core.specs.State.{IsNetwork};
@@ -20,7 +19,7 @@ use std::alloc::{AllocError, Global};
 use std::marker::Model;
 
 /// The way in which a search goes.
-#[derive(Clone, Copy, Debug, PartialEq, Eq)]
+#[derive(Clone, Copy)]
 pub(crate) enum Direction {
     /// From a node in excess over the arcs that leave.
     Forwards,
