@@ -9,9 +9,8 @@ use Rattle.flow_core.specs.State.{NetworkState, IsNetwork}
 use Rattle.path_flow.specs.declared.search.Task.{Task}
 use Rattle.path_flow.specs.declared.search.Label.{Label}
 use Rattle.path_flow.specs.Flow.{HasSign, IsAugmented, IsLeft, IsPushed, amount_if, most_units}
-use Rattle.path_flow.specs.Saturation.{HasNoNegatives}
 use Rattle.path_flow.specs.Search.{IsFound}
-use Rattle.path_flow.specs.Steps.{ChangesPotentials, reduced_cost}
+use Rattle.path_flow.specs.Steps.{ChangesPotentials, HasNoNegatives, reduced_cost}
 use Rattle.path_flow.proofs.Discharging.{takes}
 use Rattle.path_flow.proofs.Saturating.{cost_kept, no_negative_kept}
 use Rattle.path_flow.proofs.Shifting.{tight_done}

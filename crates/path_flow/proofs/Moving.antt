@@ -12,10 +12,9 @@ use Rattle.flow_core.specs.State.{NetworkState, IsNetwork}
 use Rattle.path_flow.specs.declared.search.Direction.{Direction}
 use Rattle.path_flow.specs.declared.search.Direction.TheVariants.{Forwards, Backwards}
 use Rattle.path_flow.specs.declared.search.Label.{Label}
-use Rattle.path_flow.specs.Saturation.{HasNoNegatives}
 use Rattle.path_flow.specs.Search.{IsSearched, IsShifted, label_at, nearer, potential_after, signed}
 use Rattle.path_flow.specs.Searching.{AreFree}
-use Rattle.path_flow.specs.Steps.{ChangesPotentials}
+use Rattle.path_flow.specs.Steps.{ChangesPotentials, HasNoNegatives}
 use Rattle.path_flow.proofs.Shifting.{shifted_done}
 use Rattle.path_flow.proofs.Solved.{bare_respect}
 use Rattle.path_flow.proofs.Starting.{relative_within}

@@ -18,8 +18,8 @@ use Rattle.std.proofs.lemmas.List.{length-set}
 use Rattle.std.proofs.lemmas.List.Sums.{sum_by-set, sum_by_more}
 use Rattle.path_flow.specs.Flow.{excess_units, positive_size}
 use Rattle.path_flow.proofs.Sums.{positive_less, positive_more}
-use Rattle.path_flow.specs.Steps.{reduced_cost}
-use Rattle.path_flow.specs.Saturation.{HasNoNegative, Saturates, IsSaturated}
+use Rattle.path_flow.specs.Steps.{HasNoNegative, reduced_cost}
+use Rattle.path_flow.specs.Saturation.{Saturates, IsSaturated}
 use Rattle.path_flow.specs.Searching.{AreFree}
 use Rattle.path_flow.proofs.Views.{free_respects}
 

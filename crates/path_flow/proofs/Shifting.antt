@@ -12,8 +12,7 @@ use Rattle.flow_core.proofs.Sizes.{arc_valid}
 use Rattle.path_flow.specs.declared.search.Direction.{Direction}
 use Rattle.path_flow.specs.declared.search.Direction.TheVariants.{Forwards, Backwards}
 use Rattle.path_flow.specs.declared.search.Label.{Label}
-use Rattle.path_flow.specs.Steps.{ChangesPotentials, reduced_cost}
-use Rattle.path_flow.specs.Saturation.{HasNoNegative}
+use Rattle.path_flow.specs.Steps.{ChangesPotentials, HasNoNegative, reduced_cost}
 use Rattle.path_flow.specs.declared.search.Task.{Task}
 use Rattle.path_flow.specs.Search.{IsLinked, IsReached, IsRooted, IsTree, arc_both_ways, is_odd, turned, takes_from, signed, arc_length, step_length, HasRoom, label_at, IsNear, IsSearched, positive_part, nearer, IsShifted}
 

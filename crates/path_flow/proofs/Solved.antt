@@ -17,7 +17,7 @@ use Rattle.words.specs.Lists.{total}
 use Rattle.bound_graph.specs.Cycle.{IsNegativeCycle}
 use Rattle.bound_graph.proofs.Cycles.{forbids}
 use Rattle.path_flow.specs.Flow.{IsLeft, excess_units, most_units, positive_size, units_left}
-use Rattle.path_flow.specs.Saturation.{HasNoNegative, HasNoNegatives}
+use Rattle.path_flow.specs.Steps.{HasNoNegative, HasNoNegatives}
 use Rattle.path_flow.specs.Searching.{AreFree}
 use Rattle.path_flow.proofs.Saturating.{above_zero}
 use Rattle.path_flow.proofs.Sums.{all_but_first, sizes_are}

@@ -8,7 +8,7 @@ use Rattle.flow_core.specs.State.{NetworkState, IsNetwork, residual_of}
 use Rattle.flow_core.proofs.Sizes.{arc_valid}
 use Rattle.path_flow.specs.declared.search.Task.{Task}
 use Rattle.path_flow.specs.declared.search.Label.{Label}
-use Rattle.path_flow.specs.Saturation.{HasNoNegative}
+use Rattle.path_flow.specs.Steps.{HasNoNegative}
 use Rattle.path_flow.specs.Search.{HasRoom, IsNear, arc_both_ways, is_odd, label_after, label_at, number_of, step_length, takes_from, turned}
 use Rattle.path_flow.specs.Reach.{Reach, is_better, lowered}
 use Rattle.path_flow.specs.Searching.{IsAmong, IsLast, IsSearching, key_at, one_if_open, open_nodes}

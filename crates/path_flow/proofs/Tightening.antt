@@ -6,9 +6,8 @@ use Rattle.flow_core.specs.State.{NetworkState, IsNetwork}
 use Rattle.path_flow.specs.declared.search.Task.{Task}
 use Rattle.path_flow.specs.declared.search.Label.{Label}
 use Rattle.path_flow.specs.Flow.{IsTightPath}
-use Rattle.path_flow.specs.Saturation.{HasNoNegatives}
 use Rattle.path_flow.specs.Search.{AreSmall, IsShifted, IsTree, is_odd, label_at}
-use Rattle.path_flow.specs.Steps.{ChangesPotentials}
+use Rattle.path_flow.specs.Steps.{ChangesPotentials, HasNoNegatives}
 use Rattle.path_flow.proofs.Shifting.{lengths_not_negative, shifted_tight}
 use Rattle.path_flow.proofs.Trees.{distance_small, reached_at, same_label}
 

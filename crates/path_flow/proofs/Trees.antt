@@ -9,7 +9,7 @@ use Rattle.flow_core.specs.Layout.{arcs_of, nodes_of}
 use Rattle.flow_core.specs.State.{NetworkState, IsNetwork}
 use Rattle.path_flow.specs.declared.search.Task.{Task}
 use Rattle.path_flow.specs.declared.search.Label.{Label}
-use Rattle.path_flow.specs.Saturation.{HasNoNegative}
+use Rattle.path_flow.specs.Steps.{HasNoNegative}
 use Rattle.path_flow.specs.Search.{IsReached, IsTree, arc_both_ways, is_odd, label_at, step_length}
 use Rattle.path_flow.proofs.Shifting.{lengths_not_negative}
 use Rattle.path_flow.proofs.Lengths.{length_small}

@@ -7,7 +7,7 @@ ghost use Rattle.flow_core.specs.State.{IsNetwork};
 ghost use Rattle.path_flow.specs.declared.search.Label.{Label};
 ghost use Rattle.path_flow.specs.Flow.{HasSign, IsAugmented, IsLeft, amount_if};
 ghost use Rattle.path_flow.specs.Reach.{nothing_reached};
-ghost use Rattle.path_flow.specs.Saturation.{HasNoNegatives};
+ghost use Rattle.path_flow.specs.Steps.{HasNoNegatives};
 ghost use Rattle.path_flow.specs.Search.{IsEnd, label_at};
 ghost use Rattle.path_flow.specs.Searching.{AreFree};
 

@@ -6,8 +6,8 @@ ghost use Rattle.flow_core.specs.Layout.{arcs_of, priced_count};
 ghost use Rattle.flow_core.specs.State.{IsNetwork, flow_on};
 ghost use Rattle.flow_core.specs.Views.{bare_arcs};
 ghost use Rattle.path_flow.specs.Flow.{excess_units, most_units};
-ghost use Rattle.path_flow.specs.Steps.{ChangesFlows, reduced_cost};
-ghost use Rattle.path_flow.specs.Saturation.{HasNoNegatives, IsSaturated, Saturates};
+ghost use Rattle.path_flow.specs.Steps.{ChangesFlows, HasNoNegatives, reduced_cost};
+ghost use Rattle.path_flow.specs.Saturation.{IsSaturated, Saturates};
 
 use bound_graph::ArcList;
 use flow_core::Network;

@@ -7,7 +7,7 @@ ghost use Rattle.flow_core.specs.Layout.{arcs_of, nodes_of};
 ghost use Rattle.flow_core.specs.State.{IsNetwork};
 ghost use Rattle.node_heap.specs.Keys.{HasLeast};
 ghost use Rattle.path_flow.specs.Reach.{IsKeyed, is_better, lowered, nothing_reached};
-ghost use Rattle.path_flow.specs.Saturation.{HasNoNegatives};
+ghost use Rattle.path_flow.specs.Steps.{HasNoNegatives};
 ghost use Rattle.path_flow.specs.Search.{HasRoom, IsEnd, IsFound, arc_both_ways, is_odd, label_after, label_at, step_length, takes_from};
 ghost use Rattle.path_flow.specs.Searching.{AreFree, IsLast, IsSearching, StepsFrom, nothing_left, open_nodes};
 

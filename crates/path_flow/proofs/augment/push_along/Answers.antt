@@ -6,6 +6,7 @@ use Rattle.flow_core.specs.State.{NetworkState, pushed, residual_of}
 use Rattle.path_flow.specs.declared.search.Label.{Label}
 use Rattle.path_flow.specs.Flow.{IsPushed}
 use Rattle.path_flow.specs.Search.{arc_both_ways, is_odd, label_at, takes_from}
+use Rattle.path_flow.proofs.Augmenting.{optimal_pushed}
 use Rattle.path_flow.proofs.Pathing.{nothing_pushed}
 use Rattle.path_flow.proofs.Tracing.{at_end, linked_at, room_left, step_back}
 use Rattle.path_flow.proofs.Trees.{same_label}
@@ -89,3 +90,7 @@ returns-clause-pushed c =
     let labels = c.args.labels.now.labels in
     subst (λ (z : ℤ). IsPushed c.args.task labels c.args.end c.args.task.source z c.args.net.now c.loop-node.net) (to_z-of_z w64 c.args.amount c.ranges.amount)
     (subst (λ n. IsPushed c.args.task labels c.args.end n (to_z w64 (of_z w64 c.args.amount)) c.args.net.now c.loop-node.net) c.loop-node-test.false c.loop-node.invariant.pushed)
+
+pub returns-clause-optimal : goal.returns-clause-optimal
+returns-clause-optimal c =
+    optimal_pushed c.args.task c.args.labels.now.labels c.args.end c.loop-node.node (to_z w64 (of_z w64 c.args.amount)) c.args.net.now c.loop-node.net c.requires.optimal c.loop-node.invariant.pushed

@@ -3,7 +3,7 @@ use Rattle.flow_core.specs.Layout.{nodes_of}
 use Rattle.flow_core.specs.State.{IsNetwork}
 use Rattle.path_flow.specs.Flow.{IsLeft}
 use Rattle.path_flow.specs.Reach.{nothing_reached}
-use Rattle.path_flow.specs.Saturation.{HasNoNegatives}
+use Rattle.path_flow.specs.Steps.{HasNoNegatives}
 use Rattle.path_flow.proofs.discharge.discharge.Given as goal
 
 abbrev pub invariant-loop-node : goal.invariant-loop-node
