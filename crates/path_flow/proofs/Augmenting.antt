@@ -1,21 +1,20 @@
 -- A path is searched, made tight, and flow pushed along it.
-use Rattle.std.proofs.Common.{◌≡◌, ◌≢◌, ◌⊎◌, ℕ, zero, suc, ◌+◌, ◌*◌, ◌<◌, ◌≤◌, ◌^◌, Bool, true, false, not, eqb, ℤ, pos, negsuc, ◌+ℤ◌, ◌-ℤ◌, ◌≤ℤ◌, ◌<ℤ◌, List, Option, None, Some, get_or, length, inl, inr, refl, sym, ap, ◌∙◌, subst, ⊎_elim, arith}
+use Rattle.std.proofs.Common.{◌≡◌, ◌≢◌, ◌⊎◌, ℕ, zero, suc, ◌<◌, ◌≤◌, ◌^◌, true, not, eqb, ℤ, pos, negsuc, ◌≤ℤ◌, List, Option, get_or, length, inl, inr, refl, sym, ap, ◌∙◌, subst, ⊎_elim, arith}
 use Rattle.std.specs.Prelude.{unsigned_abs}
-use Rattle.std.proofs.lemmas.Int.{ints, by_lt_z}
+use Rattle.std.proofs.lemmas.Int.{ints}
 use Rattle.words.proofs.Products.{size_within}
 use Rattle.bound_graph.specs.Values.{value_of}
 use Rattle.flow_core.specs.Layout.{FlowNetwork, arcs_of, nodes_of}
-use Rattle.flow_core.specs.State.{NetworkState, IsNetwork, flow_on}
+use Rattle.flow_core.specs.State.{NetworkState, IsNetwork}
 use Rattle.path_flow.specs.declared.search.Task.{Task}
 use Rattle.path_flow.specs.declared.search.Label.{Label}
-use Rattle.path_flow.specs.Flow.{HasSign, IsAugmented, IsLeft, IsPushed, amount_if, most_units, units_left}
-use Rattle.path_flow.specs.Saturation.{HasNoNegatives}
-use Rattle.path_flow.specs.Search.{IsFound, label_at, signed}
-use Rattle.path_flow.specs.Steps.{ChangesPotentials, reduced_cost}
-use Rattle.path_flow.proofs.Discharging.{Takes, takes}
+use Rattle.path_flow.specs.Flow.{HasSign, IsAugmented, IsLeft, IsPushed, amount_if, most_units}
+use Rattle.path_flow.specs.Search.{IsFound}
+use Rattle.path_flow.specs.Steps.{ChangesPotentials, HasNoNegatives, reduced_cost}
+use Rattle.path_flow.proofs.Discharging.{takes}
 use Rattle.path_flow.proofs.Saturating.{cost_kept, no_negative_kept}
 use Rattle.path_flow.proofs.Shifting.{tight_done}
-use Rattle.path_flow.proofs.Trees.{hops_few, room_within, same_label}
+use Rattle.path_flow.proofs.Trees.{hops_few, room_within}
 use Rattle.path_flow.proofs.Weighing.{most_small}
 
 none_or_some : (z : ℤ) → (z ≡ pos 0) ⊎ (z ≢ pos 0)

@@ -1,5 +1,5 @@
 -- A search begins at its source.
-use Rattle.std.proofs.Common.{◌≡◌, ◌≢◌, ℕ, zero, suc, ◌<◌, ◌≤◌, ℤ, pos, negsuc, ◌≤ℤ◌, List, [], ◌∷◌, ◌++◌, Option, None, Some, IfSome, length, get_or, set, replicate, refl, sym, ap, ◌∙◌, subst, ⊎_elim, arith, get_or-set_same, get_or-set_other}
+use Rattle.std.proofs.Common.{◌≡◌, ◌≢◌, ℕ, zero, suc, ◌<◌, ◌≤◌, ℤ, pos, negsuc, ◌≤ℤ◌, List, [], ◌∷◌, ◌++◌, Option, None, Some, IfSome, get_or, set, replicate, refl, sym, ap, ◌∙◌, subst, ⊎_elim, arith, get_or-set_same, get_or-set_other}
 use Rattle.std.specs.Prelude.{unsigned_abs}
 use Rattle.std.proofs.lemmas.Int.{ints}
 use Rattle.std.proofs.lemmas.Bool.{cases_eq, cases_lt}
@@ -11,7 +11,7 @@ use Rattle.path_flow.specs.declared.search.Task.{Task}
 use Rattle.path_flow.specs.declared.search.Label.{Label}
 use Rattle.path_flow.specs.Search.{IsReached, label_at, turned}
 use Rattle.path_flow.specs.Reach.{HasDistance, Reach, lowered, nothing_reached}
-use Rattle.path_flow.specs.Searching.{IsSearching, key_at, nothing_left}
+use Rattle.path_flow.specs.Searching.{IsSearching, nothing_left}
 use Rattle.path_flow.proofs.Reaching.{lowered_first}
 
 pub some_size : (z : ℤ) → z ≢ pos 0 → pos 1 ≤ℤ pos (unsigned_abs z)

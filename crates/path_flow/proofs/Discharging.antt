@@ -6,8 +6,8 @@ use Rattle.std.proofs.lemmas.Bool.{cases_eq, eq-eqb, ne_eqb}
 use Rattle.std.proofs.Math.Nat.{mul-le-mul_left}
 use Rattle.words.specs.Lists.{total}
 use Rattle.bound_graph.specs.Values.{value_of}
-use Rattle.flow_core.specs.Layout.{FlowNetwork, capacity_numbered, nodes_of, unpriced_capacity}
-use Rattle.flow_core.specs.State.{NetworkState, IsNetwork, flow_on, residual_of}
+use Rattle.flow_core.specs.Layout.{FlowNetwork, nodes_of, unpriced_capacity}
+use Rattle.flow_core.specs.State.{NetworkState, IsNetwork}
 use Rattle.flow_core.proofs.Sizes.{capacity_of_bound}
 use Rattle.std.proofs.lemmas.Bool.{cases_lt}
 use Rattle.path_flow.specs.declared.search.Direction.{Direction}
@@ -248,7 +248,7 @@ left_after network bound task old new spare gain is_old is_new some below sign w
     let units = take.units in
     let low = take.low in
     let fits = lower_budget left.budget is.amount (units_left old) (excess_units old) spare task.ends_at_zero left.spare_is (omega (arith, ints, units, low)) when_some
-        (λ stop. let falls = take.excess stop in omega (arith, falls)) (λ stop. left.excess (when_none stop)) in
+    (λ stop. let falls = take.excess stop in omega (arith, falls)) (λ stop. left.excess (when_none stop)) in
     let rest = left.budget - is.amount in
     let split : rest + is.amount ≡ left.budget = omega (arith, fits) in
     record {
@@ -270,9 +270,9 @@ left_after network bound task old new spare gain is_old is_new some below sign w
       done = λ x reading less.
           let none = left.done x reading less in
           let not_e : x ≢ is.end = λ e. ⊎_elim
-              (λ first. absurd (omega (arith, first.0, e, reading)))
-              (λ other. not_zero task.direction (value_of old.excesses is.end) (opposed old task.direction is.end other) (ap (value_of old.excesses) (sym e) ∙ none))
-              is.is_end in
+          (λ first. absurd (omega (arith, first.0, e, reading)))
+          (λ other. not_zero task.direction (value_of old.excesses is.end) (opposed old task.direction is.end other) (ap (value_of old.excesses) (sym e) ∙ none))
+          is.is_end in
           move.others x (omega (arith, less, move.below_s)) (λ e. absurd (omega (arith, e, less))) not_e ∙ none;
     }
 
@@ -368,10 +368,6 @@ end_there net task is whole sign = ⊎_elim
     (λ (one : HasOne task.direction net.excesses). (one.0, omega (arith, one.1, is.excess_each), inr (opposite_of net task.direction one.0 one.2)))
     (λ (none : HasNone task.direction net.excesses). absurd (none_opposed task.direction net.excesses task.source whole sign none))
     (find_opposed task.direction net.excesses)
-
-pub sign_not_zero : (direction : Direction) (z : ℤ) → HasSign direction z → z ≢ pos 0
-sign_not_zero Forwards z sign none = absurd (omega (arith, ints, none, sign))
-sign_not_zero Backwards z sign none = absurd (omega (arith, ints, none, sign))
 
 -- ---- one reading after the other
 

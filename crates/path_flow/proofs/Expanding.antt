@@ -1,17 +1,15 @@
 -- One node more is settled, and the nodes after it are reached.
-use Rattle.std.proofs.Common.{◌≡◌, ◌≢◌, ◌⊎◌, ℕ, ◌+◌, ◌/◌, ◌<◌, ◌≤◌, Bool, true, false, cond, ℤ, pos, ◌+ℤ◌, ◌≤ℤ◌, ◌<ℤ◌, List, Option, None, Some, IfSome, length, get_or, set, inl, inr, refl, sym, ap, ◌∙◌, subst, ⊎_elim, arith, get_or-set_same, get_or-set_other}
-use Rattle.std.specs.Prelude.{int_lt}
-use Rattle.std.proofs.lemmas.Int.{ints, by_lt_z}
+use Rattle.std.proofs.Common.{◌≡◌, ◌≢◌, ◌⊎◌, ℕ, ◌+◌, ◌/◌, ◌<◌, Bool, ℤ, pos, ◌+ℤ◌, ◌≤ℤ◌, ◌<ℤ◌, List, Option, None, Some, IfSome, length, get_or, set, inl, inr, refl, sym, ap, ◌∙◌, subst, ⊎_elim, arith, get_or-set_same, get_or-set_other}
+use Rattle.std.proofs.lemmas.Int.{ints}
 use Rattle.std.proofs.lemmas.Bool.{cases_eq}
 use Rattle.std.proofs.lemmas.List.{length-set}
-use Rattle.bound_graph.specs.declared.arc.Arc.{Arc}
-use Rattle.flow_core.specs.Layout.{arc_numbered, nodes_of}
+use Rattle.flow_core.specs.Layout.{arc_numbered}
 use Rattle.flow_core.specs.State.{NetworkState, residual_of}
 use Rattle.node_heap.specs.Keys.{HasLeast}
 use Rattle.path_flow.specs.declared.search.Task.{Task}
 use Rattle.path_flow.specs.declared.search.Label.{Label}
 use Rattle.path_flow.specs.Search.{HasRoom, IsEnd, IsNear, IsReached, IsTree, arc_both_ways, is_odd, label_at, step_length, takes_from, turned}
-use Rattle.path_flow.specs.Reach.{HasDistance, IsKeyed, Reach}
+use Rattle.path_flow.specs.Reach.{HasDistance, Reach}
 use Rattle.path_flow.specs.Searching.{IsLast, IsSearching, IsSettled, StepsFrom, key_at, nothing_left}
 use Rattle.path_flow.proofs.Searching.{distance_of_key, least_at}
 
@@ -140,8 +138,8 @@ settled_then : (net : NetworkState) (task : Task) (reach : Reach) (u h x : ℕ) 
     → (x ≢ h) × IsSettled reach x l
 settled_then net task reach u h x last label l reached better settled =
     let apart : x ≢ h = λ e.
-        let here : get_or (set reach.keys h (Some label.distance)) x None ≡ Some label.distance = ap (λ n. get_or (set reach.keys h (Some label.distance)) n None) e ∙ get_or-set_same reach.keys h (Some label.distance) None better.keys in
-        absurd (let both = sym here ∙ settled.out in cc) in
+    let here : get_or (set reach.keys h (Some label.distance)) x None ≡ Some label.distance = ap (λ n. get_or (set reach.keys h (Some label.distance)) n None) e ∙ get_or-set_same reach.keys h (Some label.distance) None better.keys in
+    absurd (let both = sym here ∙ settled.out in cc) in
     (apart, record { is = sym (label_kept reach h x label apart) ∙ settled.is; out = sym (key_kept reach h x label.distance apart) ∙ settled.out })
 
 reached_still : (net : NetworkState) (task : Task) (reach : Reach) (u h x : ℕ) (last label l : Label) (left : ℕ → Bool → Type 0) → IsSearching net task left reach → IsLast task reach u last → IsBetter net task reach u last h label
@@ -293,7 +291,7 @@ last_stays net task reach u h last label reached left so_far is_last better =
 -- A step that was gone over is not left any more.
 pub passed : (net : NetworkState) (task : Task) (reach : Reach) (left more : ℕ → Bool → Type 0) → IsSearching net task left reach
     → ((arc : ℕ) (back : Bool) → HasRoom net task.direction arc back → (from : Label) → IsSettled reach (turned back (arc_numbered net.network arc)).tail from → left arc back
-      → more arc back ⊎ IsNear from (step_length net task.direction arc back) (label_at reach.labels (turned back (arc_numbered net.network arc)).head))
+    → more arc back ⊎ IsNear from (step_length net task.direction arc back) (label_at reach.labels (turned back (arc_numbered net.network arc)).head))
     → IsSearching net task more reach
 passed net task reach left more so_far each = record {
   tree = so_far.tree;

@@ -1,6 +1,7 @@
 pub mod Augmenting
 pub mod Beginning
 pub mod Discharging
+pub mod Examples
 pub mod Expanding
 pub mod Lengths
 pub mod Moving

@@ -1,8 +1,8 @@
 -- Potentials changed one after the other.
-use Rattle.std.proofs.Common.{◌≡◌, ◌≢◌, ◌⊎◌, ℕ, zero, suc, ◌+◌, ◌^◌, ◌<◌, ◌≤◌, ℤ, pos, negsuc, ◌+ℤ◌, ◌-ℤ◌, ◌≤ℤ◌, List, [], ◌∷◌, Option, None, Some, IfSome, length, get_or, set, inl, inr, refl, sym, ap, ◌∙◌, subst, ⊎_elim, arith, get_or-set_same, get_or-set_other}
+use Rattle.std.proofs.Common.{◌≡◌, ◌≢◌, ◌⊎◌, ℕ, zero, suc, ◌+◌, ◌<◌, ◌≤◌, ℤ, pos, ◌-ℤ◌, List, [], ◌∷◌, Option, None, Some, IfSome, length, get_or, set, inl, inr, refl, sym, ◌∙◌, subst, ⊎_elim, arith, get_or-set_same, get_or-set_other}
 use Rattle.std.specs.Prelude.{unsigned_abs, Contains}
 use Rattle.std.proofs.lemmas.Int.{ints}
-use Rattle.std.proofs.lemmas.Bool.{cases_eq, cases_lt}
+use Rattle.std.proofs.lemmas.Bool.{cases_eq}
 use Rattle.words.specs.Lists.{Distinct}
 use Rattle.words.proofs.Lists.{contains_first, contains_later, contains_cases, contains_none}
 use Rattle.bound_graph.specs.Values.{value_of}
@@ -12,10 +12,9 @@ use Rattle.flow_core.specs.State.{NetworkState, IsNetwork}
 use Rattle.path_flow.specs.declared.search.Direction.{Direction}
 use Rattle.path_flow.specs.declared.search.Direction.TheVariants.{Forwards, Backwards}
 use Rattle.path_flow.specs.declared.search.Label.{Label}
-use Rattle.path_flow.specs.Saturation.{HasNoNegatives}
 use Rattle.path_flow.specs.Search.{IsSearched, IsShifted, label_at, nearer, potential_after, signed}
 use Rattle.path_flow.specs.Searching.{AreFree}
-use Rattle.path_flow.specs.Steps.{ChangesPotentials}
+use Rattle.path_flow.specs.Steps.{ChangesPotentials, HasNoNegatives}
 use Rattle.path_flow.proofs.Shifting.{shifted_done}
 use Rattle.path_flow.proofs.Solved.{bare_respect}
 use Rattle.path_flow.proofs.Starting.{relative_within}

@@ -1,13 +1,13 @@
 -- The numbers of arcs and reverses, and those that leave a node.
-use Rattle.std.proofs.Common.{◌≡◌, ℕ, zero, suc, ◌+◌, ◌*◌, ◌/◌, ◌%◌, ◌<◌, ◌≤◌, Bool, true, false, eqb, List, [], ◌∷◌, Some, length, get_or, refl, sym, ap, ◌∙◌, subst, arith}
-use Rattle.std.specs.Prelude.{slice_get, Contains}
+use Rattle.std.proofs.Common.{◌≡◌, ℕ, zero, suc, ◌+◌, ◌*◌, ◌/◌, ◌%◌, ◌<◌, Bool, true, false, eqb, List, [], ◌∷◌, length, get_or, refl, sym, ap, ◌∙◌, arith}
+use Rattle.std.specs.Prelude.{Contains}
 use Rattle.std.proofs.lemmas.Bool.{eq-eqb, ne_eqb}
 use Rattle.std.proofs.lemmas.Option.{slice_get-get_or, slice_get_within, get_or_from_slice_get}
 use Rattle.bound_graph.specs.declared.arc.Arc.{Arc}
 use Rattle.bound_graph.specs.Graph.{leaving}
 use Rattle.bound_graph.proofs.Leaving.{exactly}
 use Rattle.flow_core.specs.Layout.{FlowNetwork, arcs_of, arc_numbered, no_arc}
-use Rattle.flow_core.specs.Views.{reversed, with_reverses}
+use Rattle.flow_core.specs.Views.{with_reverses}
 use Rattle.flow_core.proofs.BothWays.{length-with_reverses}
 use Rattle.flow_core.proofs.Elements.{half_more}
 use Rattle.path_flow.specs.Search.{arc_both_ways, is_odd, number_of, turned}

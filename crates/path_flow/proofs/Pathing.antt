@@ -1,5 +1,5 @@
 -- Flow pushed along a path, from its end back to the source.
-use Rattle.std.proofs.Common.{◌≡◌, ◌≢◌, ◌⊎◌, ℕ, ◌+◌, ◌-◌, ◌/◌, ◌<◌, ◌≤◌, min, Bool, true, false, not, eqb, ℤ, pos, ◌+ℤ◌, ◌-ℤ◌, ◌*ℤ◌, ◌≤ℤ◌, List, Option, Some, length, get_or, set, inl, inr, refl, sym, ap, ◌∙◌, subst, ⊎_elim, arith, get_or-set_same, get_or-set_other}
+use Rattle.std.proofs.Common.{◌≡◌, ◌≢◌, ◌⊎◌, ℕ, ◌+◌, ◌/◌, ◌<◌, Bool, true, false, not, eqb, ℤ, pos, ◌+ℤ◌, ◌-ℤ◌, ◌*ℤ◌, ◌≤ℤ◌, List, Option, Some, length, inl, inr, refl, sym, ap, ◌∙◌, subst, ⊎_elim, arith, get_or-set_same, get_or-set_other}
 use Rattle.std.proofs.lemmas.Int.{ints}
 use Rattle.std.proofs.lemmas.Bool.{cases_eq}
 use Rattle.std.proofs.lemmas.List.{length-set}
@@ -7,7 +7,7 @@ use Rattle.std.proofs.Math.IntN.{*ℤ-zero, *ℤ-one}
 use lib.IntN.{one}
 use Rattle.bound_graph.specs.declared.arc.Arc.{Arc}
 use Rattle.bound_graph.specs.Values.{value_of}
-use Rattle.flow_core.specs.Layout.{FlowNetwork, arcs_of, arc_numbered, nodes_of}
+use Rattle.flow_core.specs.Layout.{FlowNetwork, arcs_of, arc_numbered}
 use Rattle.flow_core.specs.State.{NetworkState, IsNetwork, flow_on, one_if, added, rise_by, pushed}
 use Rattle.flow_core.proofs.Elements.{added_at}
 use Rattle.flow_core.proofs.Sizes.{arc_valid, length-flows}
@@ -43,7 +43,7 @@ excess_raised excesses tail head rise x out into =
 -- what a push changes at a node, by the ends of what flow moves over
 excess_pushed : (net : NetworkState) (arc : ℕ) (back : Bool) (amount : ℤ) (x : ℕ) → IsNetwork net → arc < length (arcs_of net.network)
     → value_of (pushed net arc back amount).excesses x
-      ≡ (value_of net.excesses x +ℤ amount_if (eqb (turned back (arc_numbered net.network arc)).head x) amount) -ℤ amount_if (eqb (turned back (arc_numbered net.network arc)).tail x) amount
+    ≡ (value_of net.excesses x +ℤ amount_if (eqb (turned back (arc_numbered net.network arc)).head x) amount) -ℤ amount_if (eqb (turned back (arc_numbered net.network arc)).tail x) amount
 excess_pushed net arc true amount x is below =
     let ends = arc_numbered net.network arc in
     let valid = arc_valid net.network arc is.layout below in
@@ -59,8 +59,8 @@ excess_pushed net arc false amount x is below =
 -- the same by the step that a search took
 excess_of_step : (net : NetworkState) (direction : Direction) (arc : ℕ) (back : Bool) (amount : ℤ) (x : ℕ) → IsNetwork net → arc < length (arcs_of net.network)
     → value_of (pushed net arc (takes_from direction back) amount).excesses x
-      ≡ (value_of net.excesses x +ℤ signed direction (amount_if (eqb (turned back (arc_numbered net.network arc)).head x) amount))
-        -ℤ signed direction (amount_if (eqb (turned back (arc_numbered net.network arc)).tail x) amount)
+    ≡ (value_of net.excesses x +ℤ signed direction (amount_if (eqb (turned back (arc_numbered net.network arc)).head x) amount))
+    -ℤ signed direction (amount_if (eqb (turned back (arc_numbered net.network arc)).tail x) amount)
 excess_of_step net Forwards arc back amount x is below = excess_pushed net arc back amount x is below
 excess_of_step net Backwards arc true amount x is below = let push = excess_pushed net arc false amount x is below in omega (arith, ints, push)
 excess_of_step net Backwards arc false amount x is below = let push = excess_pushed net arc true amount x is below in omega (arith, ints, push)

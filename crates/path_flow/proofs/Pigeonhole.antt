@@ -1,5 +1,5 @@
 -- Numbers below a bound, no two of them equal, are no more than the bound.
-use Rattle.std.proofs.Common.{◌≡◌, ◌≢◌, ℕ, zero, suc, ◌+◌, ◌<◌, ◌≤◌, ◌||◌, Bool, true, false, eqb, List, [], ◌∷◌, length, Option, Some, None, get_or, refl, sym, ap, ◌∙◌, subst, ⊎_elim, arith}
+use Rattle.std.proofs.Common.{◌≡◌, ◌≢◌, ℕ, zero, suc, ◌+◌, ◌<◌, ◌≤◌, ◌||◌, Bool, true, false, eqb, List, [], ◌∷◌, length, Option, Some, None, refl, sym, ap, ◌∙◌, ⊎_elim, arith}
 use Rattle.std.specs.List.{AllByRecursion, IsDistinct, list_any}
 use Rattle.std.proofs.lemmas.Bool.{ne_eqb, eqb-true, cases_lt}
 use Rattle.std.proofs.lemmas.List.{get_or_past}
@@ -69,11 +69,17 @@ way labels before (suc n) v label is hops =
     record {
       nodes = v ∷ rest.nodes;
       long = omega (arith, rest.long);
-      distinct = (all_weaker (λ x. (l : Label) × (label_at labels x ≡ Some l) × (l.hops ≤ n)) (λ x. v ≢ x)
-          (λ x there e. absurd (omega (arith, hops, there.2, same_hops (label_at labels x) label there.0 (ap (label_at labels) (sym e) ∙ is) there.1))) rest.nodes rest.near, rest.distinct);
+      distinct = (
+        all_weaker (λ x. (l : Label) × (label_at labels x ≡ Some l) × (l.hops ≤ n)) (λ x. v ≢ x)
+            (λ x there e. absurd (omega (arith, hops, there.2, same_hops (label_at labels x) label there.0 (ap (label_at labels) (sym e) ∙ is) there.1))) rest.nodes rest.near,
+        rest.distinct,
+      );
       below = (labelled_inside labels v label is, rest.below);
-      near = ((label, is, omega (arith, hops)), all_weaker (λ x. (l : Label) × (label_at labels x ≡ Some l) × (l.hops ≤ n)) (λ x. (l : Label) × (label_at labels x ≡ Some l) × (l.hops ≤ suc n))
-          (λ x there. (there.0, there.1, omega (arith, there.2))) rest.nodes rest.near);
+      near = (
+        (label, is, omega (arith, hops)),
+        all_weaker (λ x. (l : Label) × (label_at labels x ≡ Some l) × (l.hops ≤ n)) (λ x. (l : Label) × (label_at labels x ≡ Some l) × (l.hops ≤ suc n))
+            (λ x there. (there.0, there.1, omega (arith, there.2))) rest.nodes rest.near,
+      );
     }
 
 pub few_hops : (labels : List (Option Label)) → ((x : ℕ) (label : Label) → label_at labels x ≡ Some label → 0 < label.hops → IsBefore labels label)

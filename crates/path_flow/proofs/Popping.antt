@@ -1,6 +1,5 @@
 -- A nearest node comes out of the heap.
 use Rattle.std.proofs.Common.{◌≡◌, ℕ, ◌+◌, ◌<◌, ◌≤◌, ℤ, List, Option, None, Some, IfSome, length, get_or, set, refl, sym, ap, ◌∙◌, subst, ⊎_elim, arith}
-use Rattle.std.specs.Prelude.{All, IsNone}
 use Rattle.std.proofs.lemmas.Bool.{cases_lt}
 use Rattle.std.proofs.lemmas.List.{get_or_past}
 use Rattle.flow_core.specs.Layout.{nodes_of}
@@ -10,7 +9,7 @@ use Rattle.path_flow.specs.declared.search.Task.{Task}
 use Rattle.path_flow.specs.declared.search.Label.{Label}
 use Rattle.path_flow.specs.Search.{IsEnd, IsFound, label_at}
 use Rattle.path_flow.specs.Reach.{HasDistance, IsKeyed, Reach}
-use Rattle.path_flow.specs.Searching.{IsLast, IsSearching, StepsFrom, key_at, nothing_left, open_nodes}
+use Rattle.path_flow.specs.Searching.{IsLast, IsSearching, StepsFrom, nothing_left, open_nodes}
 use Rattle.path_flow.proofs.Expanding.{popped, popped_last}
 use Rattle.path_flow.proofs.Searching.{found}
 use Rattle.path_flow.proofs.Stepping.{one_closed}

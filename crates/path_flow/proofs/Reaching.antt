@@ -1,15 +1,15 @@
 -- The nodes that a search has reached, and their labels.
-use Rattle.std.proofs.Common.{◌≡◌, ◌≢◌, ℕ, zero, suc, ◌+◌, ◌^◌, ◌<◌, ◌≤◌, Bool, true, false, ℤ, pos, ◌≤ℤ◌, ◌<ℤ◌, List, [], ◌∷◌, ◌++◌, Option, None, Some, IfSome, if◌then◌else◌, length, get_or, set, take, drop, replicate, refl, sym, ap, ◌∙◌, subst, ⊎_elim, arith, get_or-set_same, get_or-set_other, length-append, add-one}
+use Rattle.std.proofs.Common.{◌≡◌, ◌≢◌, ℕ, zero, suc, ◌+◌, ◌^◌, ◌<◌, ◌≤◌, Bool, true, false, ℤ, ◌≤ℤ◌, ◌<ℤ◌, List, [], ◌∷◌, ◌++◌, Option, None, Some, IfSome, if◌then◌else◌, length, get_or, set, take, replicate, refl, sym, ap, ◌∙◌, subst, ⊎_elim, arith, get_or-set_same, get_or-set_other, length-append}
 use Rattle.std.specs.Prelude.{int_lt, is_some, Contains}
 use Rattle.std.specs.List.{AllByRecursion}
 use Rattle.std.proofs.lemmas.Int.{ints}
 use Rattle.std.proofs.lemmas.Bool.{cases_eq, cases_lt}
-use Rattle.std.proofs.lemmas.List.{length-set, length-take-le, take_more_set, take-set-le, get_or-replicate, length-replicate, ext_get_or, get_or_past, get_or_append_left, get_or-append-add}
+use Rattle.std.proofs.lemmas.List.{length-set, length-take-le, take_more_set, get_or-replicate, length-replicate, ext_get_or, get_or_past, get_or_append_left}
 use Rattle.words.specs.Lists.{Distinct}
 use Rattle.words.proofs.Lists.{all_push, all_weaker, contains_first, contains_later, contains_cases, contains_none, distinct_push}
 use Rattle.path_flow.specs.declared.search.Label.{Label}
 use Rattle.path_flow.specs.Search.{label_at}
-use Rattle.path_flow.specs.Reach.{HasDistance, IsReach, IsKeyed, Reach, is_better, lowered, nothing_reached}
+use Rattle.path_flow.specs.Reach.{HasDistance, IsReach, Reach, is_better, lowered}
 use Rattle.path_flow.proofs.Pigeonhole.{few_distinct}
 
 -- ---- one node more
@@ -58,8 +58,8 @@ labelled_set labels more old node label below here kept before x = ⊎_elim
 label_elsewhere : (labels : List (Option Label)) (node x : ℕ) (label : Label) → node < length labels → label_at (set labels node (Some label)) x ≡ None → (x ≢ node) × (label_at labels x ≡ None)
 label_elsewhere labels node x label below none =
     let apart : x ≢ node = λ e.
-        let here : label_at (set labels node (Some label)) x ≡ Some label = ap (label_at (set labels node (Some label))) e ∙ get_or-set_same labels node (Some label) None below in
-        absurd (let both = sym here ∙ none in cc) in
+    let here : label_at (set labels node (Some label)) x ≡ Some label = ap (label_at (set labels node (Some label))) e ∙ get_or-set_same labels node (Some label) None below in
+    absurd (let both = sym here ∙ none in cc) in
     (apart, sym (get_or-set_other labels node x (Some label) None apart) ∙ none)
 
 all_below : (xs : List ℕ) (m n : ℕ) → n ≡ m → AllByRecursion (λ x. x < m) xs → AllByRecursion (λ x. x < n) xs
@@ -114,11 +114,11 @@ pub lowered_first : (reach : Reach) (node : ℕ) (label : Label) → label_at re
     → lowered reach node label ≡ record { labels = set reach.labels node (Some label); keys = set reach.keys node (Some label.distance); reached = reach.reached ++ node ∷ [] }
 lowered_first reach node label none =
     let is : Option Label → Type 0 = λ option.
-        (if is_better label option then record {
-          labels = set reach.labels node (Some label);
-          keys = set reach.keys node (Some label.distance);
-          reached = if is_some option then reach.reached else (reach.reached ++ node ∷ []);
-        } else reach) ≡ record { labels = set reach.labels node (Some label); keys = set reach.keys node (Some label.distance); reached = reach.reached ++ node ∷ [] } in
+    (if is_better label option then record {
+      labels = set reach.labels node (Some label);
+      keys = set reach.keys node (Some label.distance);
+      reached = if is_some option then reach.reached else (reach.reached ++ node ∷ []);
+    } else reach) ≡ record { labels = set reach.labels node (Some label); keys = set reach.keys node (Some label.distance); reached = reach.reached ++ node ∷ [] } in
     subst is (sym none) refl
 
 pub lowered_again : (reach : Reach) (node : ℕ) (label before : Label) → label_at reach.labels node ≡ Some before → is_better label (label_at reach.labels node) ≡ true
@@ -126,11 +126,11 @@ pub lowered_again : (reach : Reach) (node : ℕ) (label before : Label) → labe
 lowered_again reach node label before some better =
     let new : Reach = record { labels = set reach.labels node (Some label); keys = set reach.keys node (Some label.distance); reached = reach.reached } in
     let is : Option Label → Bool → Type 0 = λ option test.
-        (if test then record {
-          labels = set reach.labels node (Some label);
-          keys = set reach.keys node (Some label.distance);
-          reached = if is_some option then reach.reached else (reach.reached ++ node ∷ []);
-        } else reach) ≡ new in
+    (if test then record {
+      labels = set reach.labels node (Some label);
+      keys = set reach.keys node (Some label.distance);
+      reached = if is_some option then reach.reached else (reach.reached ++ node ∷ []);
+    } else reach) ≡ new in
     subst (λ (test : Bool). is (label_at reach.labels node) test) (sym better) (subst (λ (option : Option Label). is option true) (sym some) refl)
 
 pub lowered_not : (reach : Reach) (node : ℕ) (label : Label) → is_better label (label_at reach.labels node) ≡ false → lowered reach node label ≡ reach
@@ -181,9 +181,10 @@ left_set : (labels : List (Option Label)) (reached : List ℕ) (done node x : �
     → IfSome (label_at labels x) (λ l. (k : ℕ) × (suc done ≤ k) × (k < length reached) × (get_or reached k 0 ≡ x))
 left_set labels reached done node x node_is before apart =
     let step : (option : Option Label) → IfSome option (λ l. (k : ℕ) × (done ≤ k) × (k < length reached) × (get_or reached k 0 ≡ x)) → IfSome option (λ l. (k : ℕ) × (suc done ≤ k) × (k < length reached) × (get_or reached k 0 ≡ x)) =
-        λ (option : Option Label). elim option as (λ (o : Option Label). IfSome o (λ l. (k : ℕ) × (done ≤ k) × (k < length reached) × (get_or reached k 0 ≡ x)) → IfSome o (λ l. (k : ℕ) × (suc done ≤ k) × (k < length reached) × (get_or reached k 0 ≡ x)))
-        [ None ↦ λ h. tt
-        | Some l ↦ λ h. (h.0, (let other : h.0 ≢ done = λ e. apart (sym (h.3) ∙ ap (λ k. get_or reached k 0) e ∙ sym node_is) in omega (arith, other, h.1)), h.2, h.3) ] in
+    λ (option : Option Label). elim option as (λ (o : Option Label). IfSome o (λ l. (k : ℕ) × (done ≤ k) × (k < length reached) × (get_or reached k 0 ≡ x)) → IfSome o (λ l. (k : ℕ) × (suc done ≤ k) × (k < length reached) × (get_or reached k 0 ≡ x))) [
+      | None ↦ λ h. tt
+      | Some l ↦ λ h. (h.0, (let other : h.0 ≢ done = λ e. apart (sym (h.3) ∙ ap (λ k. get_or reached k 0) e ∙ sym node_is) in omega (arith, other, h.1)), h.2, h.3)
+    ] in
     step (label_at labels x) before
 
 pub one_taken : (labels : List (Option Label)) (reached : List ℕ) (done node : ℕ) → node < length labels → node ≡ get_or reached done 0 → AreLeft labels reached done → AreLeft (set labels node None) reached (suc done)
@@ -217,31 +218,7 @@ pub all_left : (labels : List (Option Label)) (reached : List ℕ) → ((x : ℕ
 all_left labels reached labelled = record {
   left = λ x.
       let step : (option : Option Label) → IfSome option (λ l. Contains reached x) → IfSome option (λ l. (k : ℕ) × (0 ≤ k) × (k < length reached) × (get_or reached k 0 ≡ x)) =
-          λ (option : Option Label). elim option as (λ (o : Option Label). IfSome o (λ l. Contains reached x) → IfSome o (λ l. (k : ℕ) × (0 ≤ k) × (k < length reached) × (get_or reached k 0 ≡ x)))
-          [ None ↦ λ h. tt | Some l ↦ λ h. (h.0, omega arith, h.1, get_or_any reached h.0 x h.1 h.2) ] in
+      λ (option : Option Label). elim option as (λ (o : Option Label). IfSome o (λ l. Contains reached x) → IfSome o (λ l. (k : ℕ) × (0 ≤ k) × (k < length reached) × (get_or reached k 0 ≡ x)))
+      [ None ↦ λ h. tt | Some l ↦ λ h. (h.0, omega arith, h.1, get_or_any reached h.0 x h.1 h.2) ] in
       step (label_at labels x) (labelled x);
 }
-
--- ---- no node is reached
-
-none_at_all : (nodes x : ℕ) → label_at (replicate nodes None) x ≡ None
-none_at_all nodes x = ⊎_elim
-    (λ (below : x < nodes). get_or-replicate nodes x None None below)
-    (λ (past : nodes ≤ x). get_or_past (replicate nodes None) x None (omega (arith, past, length-replicate {A = Option Label} nodes None)))
-    (cases_lt x nodes)
-
-pub nothing_is_reach : (nodes long : ℕ) (keys : List (Option ℤ)) (items : List ℕ) → nodes < 2 ^ 32 → long ≡ nodes → keys ≡ replicate nodes None
-    → IsReach 0 long (record { labels = replicate nodes None; keys = keys; reached = take 0 items })
-nothing_is_reach nodes long keys items few room same =
-    let size = length-replicate {A = Option Label} nodes None in
-    let key_size = ap (λ (l : List (Option ℤ)). length l) same ∙ length-replicate {A = Option ℤ} nodes None in
-    record {
-      keyed = omega (arith, size, key_size);
-      room = omega (arith, size, room);
-      few = omega (arith, size, few);
-      within = omega arith;
-      nodes = tt;
-      distinct = tt;
-      labelled = λ x. subst (λ (option : Option Label). IfSome option (λ l. Contains [] x)) (sym (none_at_all nodes x)) tt;
-      fresh = λ x none has. contains_none x has;
-    }

@@ -1,13 +1,13 @@
 -- Arcs saturated, one after the other.
-use Rattle.std.proofs.Common.{◌≡◌, ◌≢◌, ℕ, zero, suc, ◌+◌, ◌*◌, ◌-◌, ◌<◌, ◌≤◌, min, true, false, eqb, ℤ, pos, negsuc, ◌+ℤ◌, ◌-ℤ◌, ◌≤ℤ◌, ◌<ℤ◌, List, length, get_or, set, take, sum, count_by, cond, not, ◌/◌, refl, sym, ap, ◌∙◌, subst, ⊎_elim, arith, get_or-set_same, get_or-set_other, zero-add}
+use Rattle.std.proofs.Common.{◌≡◌, ◌≢◌, ℕ, zero, suc, ◌+◌, ◌*◌, ◌-◌, ◌<◌, ◌≤◌, true, false, eqb, ℤ, pos, negsuc, ◌+ℤ◌, ◌-ℤ◌, ◌≤ℤ◌, ◌<ℤ◌, List, length, get_or, set, take, sum, count_by, cond, not, ◌/◌, refl, sym, ap, ◌∙◌, subst, ⊎_elim, arith, get_or-set_same, get_or-set_other}
 use Rattle.std.proofs.lemmas.Int.{ints}
-use Rattle.std.proofs.lemmas.Bool.{cases_eq, cases_lt, eqb-true, eq-eqb, ne_eqb}
-use Rattle.std.proofs.lemmas.List.{get_or_append_left, get_or-append-add, get_or_past, take_all}
+use Rattle.std.proofs.lemmas.Bool.{cases_eq, cases_lt, eq-eqb, ne_eqb}
+use Rattle.std.proofs.lemmas.List.{get_or_append_left, get_or-append-add, get_or_past}
 use Rattle.std.proofs.lemmas.List.Sums.{count_by_more_no, count_by_more_yes}
 use Rattle.std.specs.Int.{is_positive}
 use Rattle.bound_graph.specs.declared.arc.Arc.{Arc}
 use Rattle.bound_graph.specs.Values.{value_of, RespectsArc, RespectsArcs}
-use Rattle.flow_core.specs.Layout.{FlowNetwork, IsLayout, no_arc, nodes_of, arcs_of, arc_numbered, capacity_numbered, priced_count, reading_arcs, capacity_at_price, unpriced_capacity}
+use Rattle.flow_core.specs.Layout.{FlowNetwork, IsLayout, no_arc, arcs_of, arc_numbered, capacity_numbered, reading_arcs, capacity_at_price, unpriced_capacity}
 use Rattle.flow_core.specs.State.{NetworkState, IsNetwork, flow_on, residual_of, added, pushed}
 use Rattle.flow_core.specs.Views.{bare_arcs}
 use Rattle.flow_core.proofs.Readings.{arc_to_at, arc_from_at}
@@ -16,10 +16,10 @@ use Rattle.words.specs.Lists.{total}
 use Rattle.words.proofs.Sums.{total-set}
 use Rattle.std.proofs.lemmas.List.{length-set}
 use Rattle.std.proofs.lemmas.List.Sums.{sum_by-set, sum_by_more}
-use Rattle.path_flow.specs.Flow.{excess_units, most_units, positive_size}
+use Rattle.path_flow.specs.Flow.{excess_units, positive_size}
 use Rattle.path_flow.proofs.Sums.{positive_less, positive_more}
-use Rattle.path_flow.specs.Steps.{reduced_cost}
-use Rattle.path_flow.specs.Saturation.{HasNoNegative, Saturates, IsSaturated}
+use Rattle.path_flow.specs.Steps.{HasNoNegative, reduced_cost}
+use Rattle.path_flow.specs.Saturation.{Saturates, IsSaturated}
 use Rattle.path_flow.specs.Searching.{AreFree}
 use Rattle.path_flow.proofs.Views.{free_respects}
 
@@ -41,13 +41,6 @@ kept net arc done = record {
   kept = λ cost. refl;
   units = omega arith;
   whole = refl;
-}
-
--- an arc on which nothing flows and that has no room
-pub full_done : (net : NetworkState) (arc : ℕ) → flow_on net arc ≡ pos 0 → residual_of net arc false ≤ℤ pos 0 → HasNoNegative net arc
-full_done net arc empty full = record {
-  ahead = λ room. absurd (omega (arith, ints, room, full));
-  back = λ some. absurd (omega (arith, ints, some, empty));
 }
 
 -- a push takes from one node what it brings to another
@@ -128,15 +121,6 @@ one_arc_more first old new arc so_far step free = record {
       (cases_eq k arc);
 }
 
-pub none_yet : (net : NetworkState) → ((k : ℕ) → flow_on net k ≡ pos 0) → IsSaturated 0 net net
-none_yet net empty = record {
-  network = refl;
-  potentials = refl;
-  done = λ k below. absurd (omega arith);
-  rest = λ k above. empty k;
-  free = λ k none. empty k;
-}
-
 -- seen from where it was in between
 pub rebased : (count : ℕ) (first net : NetworkState) → IsSaturated count first net → IsSaturated count net net
 rebased count first net is = record { network = refl; potentials = refl; done = is.done; rest = is.rest; free = is.free }
@@ -215,16 +199,6 @@ above_zero (negsuc n) test = absurd cc
 pub zero_price : (unpriced price : ℕ) → price ≡ 0 → capacity_at_price unpriced price ≡ unpriced
 zero_price unpriced zero free = refl
 zero_price unpriced (suc price) free = absurd (omega (arith, free))
-
--- where nothing flows on bounds without a price, more can flow on each
-pub all_free : (net : NetworkState) → IsNetwork net → ((k : ℕ) → get_or net.network.prices k 1 ≡ 0 → flow_on net k ≡ pos 0) → AreFree net
-all_free net is empty k free = ⊎_elim
-    (λ (below : k < length net.network.prices).
-    let capacity = capacity_of_bound net.network k below ∙ zero_price (unpriced_capacity net.network) (get_or net.network.prices k 1) free in
-    let none = empty k free in
-    omega (arith, ints, capacity, none))
-    (λ (past : length net.network.prices ≤ k). absurd (past_bounds net k past free))
-    (cases_lt k (length net.network.prices))
 
 -- ---- the units that are saturated
 

@@ -1,5 +1,5 @@
 -- A search finds an end, and nothing nearer is left out.
-use Rattle.std.proofs.Common.{◌≡◌, ◌≢◌, ℕ, zero, suc, ◌+◌, ◌<◌, ◌≤◌, Bool, true, false, ℤ, pos, ◌+ℤ◌, ◌-ℤ◌, ◌≤ℤ◌, ◌<ℤ◌, List, Option, None, Some, IfSome, length, get_or, refl, sym, ap, ◌∙◌, subst, ⊎_elim, arith}
+use Rattle.std.proofs.Common.{◌≡◌, ℕ, zero, suc, ◌<◌, ◌≤◌, Bool, true, false, ℤ, pos, ◌≤ℤ◌, List, Option, None, Some, IfSome, length, get_or, refl, sym, ap, ◌∙◌, subst, ⊎_elim, arith}
 use Rattle.std.specs.Prelude.{All, IsNone}
 use Rattle.std.proofs.lemmas.Int.{ints}
 use Rattle.std.proofs.lemmas.Bool.{cases_lt}
@@ -8,16 +8,16 @@ use Rattle.std.proofs.lemmas.List.Elements.{All-get_or}
 use Rattle.bound_graph.specs.declared.arc.Arc.{Arc}
 use Rattle.flow_core.specs.declared.limits.TheConstants.{MOST_VALUE}
 use Rattle.flow_core.specs.Layout.{IsLayout, HasRange, HasUnpriced, no_arc, arcs_of, arc_numbered, nodes_of, reading_arcs}
-use Rattle.flow_core.specs.State.{NetworkState, IsNetwork, residual_of}
+use Rattle.flow_core.specs.State.{NetworkState}
 use Rattle.flow_core.proofs.Sizes.{length-arcs_of}
 use Rattle.node_heap.specs.Keys.{HasLeast}
 use Rattle.path_flow.specs.declared.search.Direction.{Direction}
 use Rattle.path_flow.specs.declared.search.Direction.TheVariants.{Forwards, Backwards}
 use Rattle.path_flow.specs.declared.search.Task.{Task}
 use Rattle.path_flow.specs.declared.search.Label.{Label}
-use Rattle.path_flow.specs.Search.{HasRoom, IsEnd, IsFound, IsNear, label_at, step_length, takes_from, turned}
+use Rattle.path_flow.specs.Search.{HasRoom, IsEnd, IsFound, label_at, turned}
 use Rattle.path_flow.specs.Reach.{HasDistance, Reach}
-use Rattle.path_flow.specs.Searching.{AreFree, IsLast, IsSearching, IsSettled, StepsFrom, key_at, nothing_left}
+use Rattle.path_flow.specs.Searching.{AreFree, IsSearching, IsSettled, key_at, nothing_left}
 
 -- ---- keys
 

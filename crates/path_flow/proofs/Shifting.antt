@@ -1,19 +1,18 @@
 -- Potentials shifted after a search: no residual arc has a negative reduced cost, and the path to the end is tight.
-use Rattle.std.proofs.Common.{◌≡◌, ℕ, ◌+◌, ◌<◌, ◌≤◌, Bool, true, false, ℤ, pos, negsuc, zero, suc, ◌+ℤ◌, ◌-ℤ◌, ◌≤ℤ◌, ◌<ℤ◌, ◌/◌, List, Option, None, Some, IfSome, length, refl, sym, ap, ◌∙◌, subst, arith}
+use Rattle.std.proofs.Common.{◌≡◌, ℕ, ◌<◌, Bool, true, false, ℤ, pos, negsuc, zero, suc, ◌+ℤ◌, ◌-ℤ◌, ◌≤ℤ◌, ◌<ℤ◌, ◌/◌, List, Option, None, Some, IfSome, length, refl, sym, ap, ◌∙◌, subst, arith}
 use Rattle.std.specs.Prelude.{unsigned_abs}
 use Rattle.std.proofs.lemmas.Int.{ints, by_lt_z}
 use Rattle.bound_graph.specs.declared.arc.Arc.{Arc}
 use Rattle.bound_graph.specs.Arcs.{IsArc}
 use Rattle.bound_graph.specs.Values.{value_of}
 use Rattle.flow_core.specs.Layout.{FlowNetwork, IsLayout, arcs_of, arc_numbered, nodes_of}
-use Rattle.flow_core.specs.State.{NetworkState, residual_of, flow_on}
+use Rattle.flow_core.specs.State.{NetworkState, residual_of}
 use Rattle.flow_core.proofs.BothWays.{reversed_valid}
 use Rattle.flow_core.proofs.Sizes.{arc_valid}
 use Rattle.path_flow.specs.declared.search.Direction.{Direction}
 use Rattle.path_flow.specs.declared.search.Direction.TheVariants.{Forwards, Backwards}
 use Rattle.path_flow.specs.declared.search.Label.{Label}
-use Rattle.path_flow.specs.Steps.{ChangesPotentials, reduced_cost}
-use Rattle.path_flow.specs.Saturation.{HasNoNegative}
+use Rattle.path_flow.specs.Steps.{ChangesPotentials, HasNoNegative, reduced_cost}
 use Rattle.path_flow.specs.declared.search.Task.{Task}
 use Rattle.path_flow.specs.Search.{IsLinked, IsReached, IsRooted, IsTree, arc_both_ways, is_odd, turned, takes_from, signed, arc_length, step_length, HasRoom, label_at, IsNear, IsSearched, positive_part, nearer, IsShifted}
 
@@ -106,7 +105,7 @@ turned_valid nodes false arc valid = valid
 length_after : (net new : NetworkState) (direction : Direction) (labels : List (Option Label)) (far : ℤ) (arc : ℕ) (back : Bool) → IsLayout net.network → arc < length (arcs_of net.network)
     → new.network ≡ net.network → IsShifted direction labels far (nodes_of net.network) net.potentials new.potentials
     → step_length new direction arc back
-      ≡ (step_length net direction arc back +ℤ nearer far (label_at labels (turned back (arc_numbered net.network arc)).head)) -ℤ nearer far (label_at labels (turned back (arc_numbered net.network arc)).tail)
+    ≡ (step_length net direction arc back +ℤ nearer far (label_at labels (turned back (arc_numbered net.network arc)).head)) -ℤ nearer far (label_at labels (turned back (arc_numbered net.network arc)).tail)
 length_after net new direction labels far arc back layout below same shifted =
     let ends = turned back (arc_numbered net.network arc) in
     let valid = turned_valid (nodes_of net.network) back (arc_numbered net.network arc) (arc_valid net.network arc layout below) in

@@ -1,5 +1,5 @@
 -- A network without excess and without residual arcs of negative reduced cost is solved.
-use Rattle.std.proofs.Common.{◌≡◌, ℕ, zero, suc, ◌+◌, ◌*◌, ◌-ℤ◌, ◌<◌, Bool, true, false, ◌||◌, eqb, ℤ, pos, ◌≤ℤ◌, ◌≤◌, List, length, get_or, replicate, refl, sym, ap, ◌∙◌, subst, ⊎_elim, arith, zero-add}
+use Rattle.std.proofs.Common.{◌≡◌, ℕ, zero, suc, ◌+◌, ◌*◌, ◌-ℤ◌, ◌<◌, Bool, true, false, ◌||◌, ℤ, pos, ◌≤ℤ◌, ◌≤◌, List, length, get_or, replicate, refl, sym, ap, ◌∙◌, subst, ⊎_elim, arith, zero-add}
 use Rattle.std.proofs.lemmas.Int.{ints}
 use Rattle.std.proofs.lemmas.Bool.{eqb-true, cases_lt}
 use Rattle.std.proofs.lemmas.List.{get_or_append_left, get_or_past, get_or-replicate, length-replicate}
@@ -17,7 +17,7 @@ use Rattle.words.specs.Lists.{total}
 use Rattle.bound_graph.specs.Cycle.{IsNegativeCycle}
 use Rattle.bound_graph.proofs.Cycles.{forbids}
 use Rattle.path_flow.specs.Flow.{IsLeft, excess_units, most_units, positive_size, units_left}
-use Rattle.path_flow.specs.Saturation.{HasNoNegative, HasNoNegatives}
+use Rattle.path_flow.specs.Steps.{HasNoNegative, HasNoNegatives}
 use Rattle.path_flow.specs.Searching.{AreFree}
 use Rattle.path_flow.proofs.Saturating.{above_zero}
 use Rattle.path_flow.proofs.Sums.{all_but_first, sizes_are}
@@ -61,21 +61,12 @@ zero_in n k = ⊎_elim
     (λ (past : n ≤ k). get_or_past (replicate n (pos 0)) k (pos 0) (omega (arith, past, length-replicate n (pos 0))))
     (cases_lt k n)
 
-pub new_is_empty : (net : NetworkState) → IsNew net → (arc : ℕ) → flow_on net arc ≡ pos 0
-new_is_empty net new arc = ap (λ (state : NetworkState). flow_on state arc) new ∙ zero_in (length (arcs_of net.network)) arc
-
-pub new_is_unchanged : (net : NetworkState) → IsNew net → net.changes ≡ 0
-new_is_unchanged net new = ap (λ (state : NetworkState). state.changes) new
-
 zeroes : (n : ℕ) → total (replicate n (pos 0)) ≡ pos 0
 zeroes zero = refl
 zeroes (suc n) = let rest = zeroes n in omega (arith, ints, rest)
 
 pub new_is_whole : (net : NetworkState) → IsNew net → total net.excesses ≡ pos 0
 new_is_whole net new = ap (λ (state : NetworkState). total state.excesses) new ∙ zeroes (nodes_of net.network)
-
-pub new_is_balanced : (net : NetworkState) → IsNew net → excess_units net ≡ 0
-new_is_balanced net new = ap excess_units new ∙ sum_by-replicate positive_size (nodes_of net.network) (pos 0) ∙ omega arith
 
 -- ---- before the first search
 

@@ -1,11 +1,10 @@
 -- Distances that respect the bounds without a price, taken as potentials.
-use Rattle.std.proofs.Common.{◌≡◌, ◌≢◌, ℕ, zero, suc, ◌+◌, ◌<◌, ◌≤◌, ℤ, pos, ◌+ℤ◌, ◌-ℤ◌, ◌≤ℤ◌, List, length, get_or, set, refl, sym, ap, ◌∙◌, subst, ⊎_elim, arith, get_or-set_same, get_or-set_other}
+use Rattle.std.proofs.Common.{◌≡◌, ◌≢◌, ℕ, zero, suc, ◌+◌, ◌<◌, ◌≤◌, ℤ, pos, ◌-ℤ◌, List, length, get_or, set, refl, sym, ap, ◌∙◌, ⊎_elim, arith, get_or-set_same, get_or-set_other}
 use Rattle.std.specs.Prelude.{unsigned_abs}
 use Rattle.std.proofs.lemmas.Int.{ints}
 use Rattle.std.proofs.lemmas.Bool.{cases_eq}
 use Rattle.words.proofs.Products.{size_within}
-use Rattle.bound_graph.specs.declared.arc.Arc.{Arc}
-use Rattle.bound_graph.specs.Values.{value_of, RespectsArc, RespectsArcs}
+use Rattle.bound_graph.specs.Values.{value_of, RespectsArcs}
 use Rattle.flow_core.specs.declared.limits.TheConstants.{MOST_VALUE}
 use Rattle.flow_core.specs.Layout.{IsLayout, HasRange, no_arc, nodes_of}
 use Rattle.flow_core.specs.State.{NetworkState}
@@ -41,14 +40,6 @@ same_bare old new same = ap (λ network. bare_arcs (record old { network = netwo
 
 pub changes_none : (net : NetworkState) → ChangesPotentials net net
 changes_none net = record { network = refl; flows = refl; excesses = refl; changes = refl }
-
-pub changes_more : (old middle new : NetworkState) → ChangesPotentials old middle → ChangesPotentials middle new → ChangesPotentials old new
-changes_more old middle new first second = record {
-  network = second.network ∙ first.network;
-  flows = second.flows ∙ first.flows;
-  excesses = second.excesses ∙ first.excesses;
-  changes = second.changes ∙ first.changes;
-}
 
 pub set_changes : (old middle new : NetworkState) (potentials : List ℤ) → ChangesPotentials old middle → new ≡ record middle { potentials = potentials } → ChangesPotentials old new
 set_changes old middle new potentials first set = record {

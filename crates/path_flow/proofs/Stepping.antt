@@ -1,19 +1,17 @@
 -- A search goes over one step more.
-use Rattle.std.proofs.Common.{◌≡◌, ◌≢◌, ◌⊎◌, ℕ, zero, suc, ◌+◌, ◌*◌, ◌/◌, ◌<◌, ◌≤◌, Bool, true, false, ℤ, pos, ◌+ℤ◌, ◌≤ℤ◌, ◌<ℤ◌, List, [], ◌∷◌, ◌++◌, Option, None, Some, IfSome, length, get_or, set, inl, inr, refl, sym, ap, ◌∙◌, subst, ⊎_elim, arith, get_or-set_same}
-use Rattle.std.specs.Prelude.{Contains}
+use Rattle.std.proofs.Common.{◌≡◌, ℕ, zero, suc, ◌+◌, ◌/◌, ◌<◌, Bool, true, false, ℤ, pos, ◌≤ℤ◌, ◌<ℤ◌, List, [], ◌∷◌, ◌++◌, Option, None, Some, length, get_or, set, inl, inr, refl, sym, ap, ◌∙◌, subst, ⊎_elim, arith, get_or-set_same}
 use Rattle.std.proofs.lemmas.Int.{ints, clamps, by_lt_z}
 use Rattle.std.proofs.lemmas.List.{length-set}
 use Rattle.words.proofs.Lists.{contains_cases}
-use Rattle.bound_graph.specs.declared.arc.Arc.{Arc}
 use Rattle.flow_core.specs.Layout.{arcs_of, arc_numbered, nodes_of}
 use Rattle.flow_core.specs.State.{NetworkState, IsNetwork, residual_of}
 use Rattle.flow_core.proofs.Sizes.{arc_valid}
 use Rattle.path_flow.specs.declared.search.Task.{Task}
 use Rattle.path_flow.specs.declared.search.Label.{Label}
-use Rattle.path_flow.specs.Saturation.{HasNoNegative}
+use Rattle.path_flow.specs.Steps.{HasNoNegative}
 use Rattle.path_flow.specs.Search.{HasRoom, IsNear, arc_both_ways, is_odd, label_after, label_at, number_of, step_length, takes_from, turned}
 use Rattle.path_flow.specs.Reach.{Reach, is_better, lowered}
-use Rattle.path_flow.specs.Searching.{IsAmong, IsLast, IsSearching, IsSettled, key_at, one_if_open, open_nodes}
+use Rattle.path_flow.specs.Searching.{IsAmong, IsLast, IsSearching, key_at, one_if_open, open_nodes}
 use Rattle.path_flow.proofs.Expanding.{IsBetter, last_stays, lowered_keeps, passed, settled_apart, with_label}
 use Rattle.path_flow.proofs.Numbers.{number_half, number_odd}
 use Rattle.path_flow.proofs.Reaching.{lower_by_test, not_lower_by_test, lowered_again, lowered_first, lowered_not}
@@ -87,7 +85,7 @@ past net task reach u number numbers last so_far is_last tail near =
     ⊎_elim
     (λ (e : number ≡ number_of arc back).
     let ends : (turned back (arc_numbered net.network arc)).tail ≡ u =
-        sym (λ i. (turned ((ap is_odd e ∙ number_odd arc back) i) (arc_numbered net.network ((ap (λ n. n / 2) e ∙ number_half arc back) i))).tail) ∙ tail in
+    sym (λ i. (turned ((ap is_odd e ∙ number_odd arc back) i) (arc_numbered net.network ((ap (λ n. n / 2) e ∙ number_half arc back) i))).tail) ∙ tail in
     let same = same_label (label_at reach.labels u) from last (ap (label_at reach.labels) (sym ends) ∙ settled.is) is_last.settled.is in
     inr (near_at net task reach.labels number arc back last from e same (near (room_at net task number arc back e room))))
     (λ later. inl later)

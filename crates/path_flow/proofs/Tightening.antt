@@ -1,15 +1,13 @@
 -- After the potentials are changed the path to the end is tight.
-use Rattle.std.proofs.Common.{◌≡◌, ◌≢◌, ℕ, ◌/◌, ◌<◌, ◌≤◌, ℤ, pos, ◌≤ℤ◌, List, Option, None, Some, IfSome, length, refl, sym, ap, ◌∙◌, subst, arith}
+use Rattle.std.proofs.Common.{◌≡◌, ℕ, ◌/◌, ℤ, List, Option, None, Some, IfSome, refl, ap, ◌∙◌, arith}
 use Rattle.std.proofs.lemmas.Int.{ints}
-use Rattle.bound_graph.specs.declared.arc.Arc.{Arc}
-use Rattle.flow_core.specs.Layout.{arcs_of, nodes_of}
+use Rattle.flow_core.specs.Layout.{nodes_of}
 use Rattle.flow_core.specs.State.{NetworkState, IsNetwork}
 use Rattle.path_flow.specs.declared.search.Task.{Task}
 use Rattle.path_flow.specs.declared.search.Label.{Label}
 use Rattle.path_flow.specs.Flow.{IsTightPath}
-use Rattle.path_flow.specs.Saturation.{HasNoNegatives}
-use Rattle.path_flow.specs.Search.{AreSmall, IsFound, IsShifted, IsTree, arc_both_ways, is_odd, label_at, step_length}
-use Rattle.path_flow.specs.Steps.{ChangesPotentials}
+use Rattle.path_flow.specs.Search.{AreSmall, IsShifted, IsTree, is_odd, label_at}
+use Rattle.path_flow.specs.Steps.{ChangesPotentials, HasNoNegatives}
 use Rattle.path_flow.proofs.Shifting.{lengths_not_negative, shifted_tight}
 use Rattle.path_flow.proofs.Trees.{distance_small, reached_at, same_label}
 

@@ -1,11 +1,9 @@
 -- A path is gone back from its end, and flow pushed over its arcs.
-use Rattle.std.proofs.Common.{◌≡◌, ◌≢◌, ℕ, ◌+◌, ◌/◌, ◌<◌, ◌≤◌, ℤ, pos, ◌-ℤ◌, ◌≤ℤ◌, Bool, true, false, List, Option, None, Some, IfSome, length, refl, sym, ap, ◌∙◌, subst, arith}
+use Rattle.std.proofs.Common.{◌≡◌, ◌≢◌, ℕ, ◌/◌, ◌<◌, ℤ, pos, ◌-ℤ◌, ◌≤ℤ◌, Bool, true, false, List, Option, Some, IfSome, sym, ap, ◌∙◌, subst, arith}
 use Rattle.std.proofs.lemmas.Int.{ints}
-use Rattle.bound_graph.specs.declared.arc.Arc.{Arc}
-use Rattle.flow_core.specs.Layout.{FlowNetwork, arcs_of, arc_numbered, capacity_numbered, nodes_of}
+use Rattle.flow_core.specs.Layout.{FlowNetwork, arc_numbered, capacity_numbered, nodes_of}
 use Rattle.flow_core.specs.State.{NetworkState, IsNetwork, flow_on, pushed, residual_of}
 use Rattle.flow_core.proofs.Sizes.{arc_valid}
-use Rattle.path_flow.specs.declared.search.Direction.{Direction}
 use Rattle.path_flow.specs.declared.search.Task.{Task}
 use Rattle.path_flow.specs.declared.search.Label.{Label}
 use Rattle.path_flow.specs.Flow.{IsPushed, IsTightPath}

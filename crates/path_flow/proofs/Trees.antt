@@ -1,5 +1,5 @@
 -- What the labels of a search say of the ways back to its source.
-use Rattle.std.proofs.Common.{◌≡◌, ◌≢◌, ℕ, zero, suc, ◌+◌, ◌*◌, ◌^◌, ◌/◌, ◌<◌, ◌≤◌, ℤ, pos, ◌+ℤ◌, ◌≤ℤ◌, List, Option, None, Some, IfSome, length, refl, sym, ap, ◌∙◌, subst, ⊎_elim, arith}
+use Rattle.std.proofs.Common.{◌≡◌, ◌≢◌, ℕ, zero, suc, ◌*◌, ◌^◌, ◌/◌, ◌<◌, ◌≤◌, pos, ◌≤ℤ◌, List, Option, Some, IfSome, length, refl, sym, ap, ◌∙◌, subst, ⊎_elim, arith}
 use Rattle.std.specs.Prelude.{unsigned_abs}
 use Rattle.std.proofs.lemmas.Int.{ints}
 use Rattle.std.proofs.lemmas.Bool.{cases_eq}
@@ -9,7 +9,7 @@ use Rattle.flow_core.specs.Layout.{arcs_of, nodes_of}
 use Rattle.flow_core.specs.State.{NetworkState, IsNetwork}
 use Rattle.path_flow.specs.declared.search.Task.{Task}
 use Rattle.path_flow.specs.declared.search.Label.{Label}
-use Rattle.path_flow.specs.Saturation.{HasNoNegative}
+use Rattle.path_flow.specs.Steps.{HasNoNegative}
 use Rattle.path_flow.specs.Search.{IsReached, IsTree, arc_both_ways, is_odd, label_at, step_length}
 use Rattle.path_flow.proofs.Shifting.{lengths_not_negative}
 use Rattle.path_flow.proofs.Lengths.{length_small}
@@ -57,10 +57,6 @@ distance_in net task labels network all tree (suc n) node label is hops = ⊎_el
     let high = within_size (step_length net task.direction (label.number / 2) (is_odd label.number)) (6 * 10 ^ 15) (length_small net task.direction (label.number / 2) (is_odd label.number) network reached.step.below) in
     (omega (arith, ints, before.0, low, reached.distance), omega (arith, ints, before.1, high.1, reached.distance)))
     (cases_eq node task.source)
-
-pub distance_low : (net : NetworkState) (task : Task) (labels : List (Option Label)) (node : ℕ) (label : Label) → IsNetwork net → ((k : ℕ) → k < length (arcs_of net.network) → HasNoNegative net k) → IsTree net task labels
-    → label_at labels node ≡ Some label → pos 0 ≤ℤ label.distance
-distance_low net task labels node label network all tree is = (distance_in net task labels network all tree label.hops node label is refl).0
 
 few_nodes : (net : NetworkState) → IsNetwork net → nodes_of net.network ≤ 400001
 few_nodes net network = let few = network.layout.few_readings in omega (arith, few)

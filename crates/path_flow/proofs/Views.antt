@@ -1,5 +1,5 @@
 -- What holds of each arc that is there, by the arcs' numbers.
-use Rattle.std.proofs.Common.{◌≡◌, ℕ, zero, suc, ◌+◌, ◌*◌, ◌<◌, Bool, true, false, cond, eqb, ℤ, pos, List, [], ◌∷◌, length, get_or, Option, None, Some, IfSome, refl, sym, ap, ◌∙◌, subst, arith, zero-add}
+use Rattle.std.proofs.Common.{◌≡◌, ℕ, zero, suc, ◌+◌, ◌*◌, ◌<◌, Bool, true, false, cond, ℤ, List, [], ◌∷◌, length, get_or, Option, None, Some, IfSome, refl, sym, ap, ◌∙◌, subst, arith, zero-add}
 use Rattle.std.specs.List.{AllByRecursion}
 use Rattle.std.proofs.lemmas.Bool.{eqb-true, eq-eqb}
 use Rattle.bound_graph.specs.declared.arc.Arc.{Arc}

@@ -1,19 +1,18 @@
 -- Prices, weights and excesses summed up.
-use Rattle.std.proofs.Common.{◌≡◌, ◌≢◌, ℕ, zero, suc, ◌+◌, ◌*◌, ◌<◌, ◌≤◌, Bool, true, false, cond, not, eqb, ℤ, pos, ◌+ℤ◌, ◌-ℤ◌, ◌≤ℤ◌, List, [], ◌∷◌, Option, None, Some, length, sum, sum_by, take, drop, get_or, refl, sym, ap, ◌∙◌, subst, ⊎_elim, arith}
+use Rattle.std.proofs.Common.{◌≡◌, ◌≢◌, ℕ, zero, suc, ◌+◌, ◌*◌, ◌<◌, ◌≤◌, Bool, true, false, cond, ℤ, pos, List, [], ◌∷◌, None, Some, length, sum, sum_by, take, drop, get_or, refl, sym, ap, ◌∙◌, arith}
 use Rattle.std.specs.Prelude.{unsigned_abs}
-use Rattle.std.proofs.lemmas.Int.{ints}
-use Rattle.std.proofs.lemmas.Bool.{cases_eq, eq-eqb, eqb-true}
+use Rattle.std.proofs.lemmas.Bool.{eq-eqb, eqb-true}
 use Rattle.std.proofs.lemmas.List.{take_all}
 use Rattle.std.proofs.lemmas.List.Sums.{sum_by_more, sum_by-take-le}
 use Rattle.bound_graph.specs.declared.arc.Arc.{Arc}
 use Rattle.bound_graph.specs.Arcs.{arc_at}
 use Rattle.bound_graph.specs.Values.{value_of}
-use Rattle.flow_core.specs.Layout.{FlowNetwork, IsLayout, arcs_of, capacity_numbered, no_arc, unpriced_capacity}
-use Rattle.flow_core.specs.State.{NetworkState, IsNetwork}
+use Rattle.flow_core.specs.Layout.{FlowNetwork, IsLayout, capacity_numbered, unpriced_capacity}
+use Rattle.flow_core.specs.State.{NetworkState}
 use Rattle.flow_core.specs.Views.{bare_arcs, is_bare, there_from}
 use Rattle.flow_core.proofs.BothWays.{there_by_arc}
 use Rattle.flow_core.proofs.Sizes.{capacity_of_bound, prices_small, weights_small}
-use Rattle.path_flow.specs.Flow.{most_units, units_left}
+use Rattle.path_flow.specs.Flow.{most_units}
 use Rattle.path_flow.proofs.Saturating.{priced_capacity}
 
 -- a bound whose arc is not there has a price
@@ -47,19 +46,11 @@ price_is network k layout below priced = capacity_of_bound network k (omega (ari
 
 -- ---- sums so far
 
-pub sum_more : (xs : List ℕ) (i d so_far x : ℕ) → i < length xs → so_far ≡ sum (take i xs) → x ≡ get_or xs i d → so_far + x ≡ sum (take (i + 1) xs)
-sum_more xs i d so_far x below is here =
-    let more = sum_by_more (λ (n : ℕ). n) xs i d below in
-    omega (arith, is, here, more)
-
 pub sum_within : (xs : List ℕ) (i d bound : ℕ) → i < length xs → sum xs ≤ bound → sum (take i xs) + get_or xs i d ≤ bound
 sum_within xs i d bound below few =
     let more = sum_by_more (λ (n : ℕ). n) xs i d below in
     let less = sum_by-take-le (λ (n : ℕ). n) xs (i + 1) in
     omega (arith, more, less, few)
-
-pub sum_whole : (xs : List ℕ) (i : ℕ) → length xs ≤ i → sum (take i xs) ≡ sum xs
-sum_whole xs i all = ap sum (take_all i xs all)
 
 rest_long : (xs : List ℤ) (i : ℕ) → i + 1 < length xs → i < length (drop 1 xs)
 rest_long [] i below = absurd (omega (arith, below))
@@ -88,9 +79,6 @@ units_within xs i bound below few =
     let less = sum_by-take-le unsigned_abs (drop 1 xs) (i + 1) in
     let same = ap unsigned_abs (later_at xs i) in
     omega (arith, more, less, few, same)
-
-pub units_whole : (xs : List ℤ) (i : ℕ) → length xs ≤ i + 1 → sum_by unsigned_abs (take i (drop 1 xs)) ≡ sum_by unsigned_abs (drop 1 xs)
-units_whole xs i all = ap (sum_by unsigned_abs) (take_all i (drop 1 xs) (rest_short xs i all))
 
 pub most_small : (network : FlowNetwork) → IsLayout network → most_units network ≤ 4400000000
 most_small network layout = omega (arith, prices_small network layout, weights_small network layout)

@@ -1,8 +1,8 @@
 -- For proofs: flow moved along a path, and the units that are left to be moved.
-use Rattle.std.specs.Prelude.{◌≡◌, ◌≢◌, ℕ, ◌+◌, ◌/◌, ◌<◌, ◌≤◌, ◌==◌, not, Bool, if◌then◌else◌, ℤ, pos, ◌+ℤ◌, ◌-ℤ◌, ◌≤ℤ◌, ◌<ℤ◌, negsuc, ◌*◌, true, List, length, map, drop, sum, sum_by, get_or, Option, Some, unsigned_abs}
+use Rattle.std.specs.Prelude.{◌≡◌, ◌≢◌, ℕ, ◌+◌, ◌/◌, ◌<◌, ◌≤◌, ◌==◌, not, Bool, if◌then◌else◌, ℤ, pos, ◌+ℤ◌, ◌-ℤ◌, ◌≤ℤ◌, ◌<ℤ◌, negsuc, ◌*◌, true, List, length, drop, sum, sum_by, get_or, Option, Some, unsigned_abs}
 use Rattle.words.specs.Lists.{total}
 use Rattle.bound_graph.specs.Values.{value_of}
-use Rattle.flow_core.specs.Layout.{FlowNetwork, arcs_of, nodes_of}
+use Rattle.flow_core.specs.Layout.{FlowNetwork, nodes_of}
 use Rattle.flow_core.specs.State.{NetworkState, flow_on}
 use Rattle.path_flow.specs.declared.search.Direction.{Direction}
 use Rattle.path_flow.specs.declared.search.Direction.TheVariants.{Forwards, Backwards}

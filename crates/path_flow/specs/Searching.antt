@@ -1,5 +1,5 @@
 -- For proofs: what holds while a search goes on.
-use Rattle.std.specs.Prelude.{◌≡◌, ◌≢◌, ◌⊎◌, ℕ, ◌+◌, ◌<◌, Bool, false, ℤ, pos, ◌≤ℤ◌, List, [], ◌∷◌, length, get_or, Option, Some, None, Contains}
+use Rattle.std.specs.Prelude.{◌≡◌, ◌≢◌, ◌⊎◌, ℕ, ◌+◌, Bool, false, ℤ, pos, ◌≤ℤ◌, List, [], ◌∷◌, get_or, Option, Some, None, Contains}
 use Rattle.flow_core.specs.Layout.{arc_numbered}
 use Rattle.flow_core.specs.State.{NetworkState, residual_of}
 use Rattle.path_flow.specs.declared.search.Task.{Task}

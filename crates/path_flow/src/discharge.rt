@@ -1,5 +1,5 @@
 //! All excess moved to where there is a deficit.
-ghost use Rattle.std.specs.Prelude.{◌≡◌, ◌≢◌, ◌≤◌, ◌<◌, ◌+◌, ◌*◌, ◌^◌, ◌↔◌, ◌==◌, not, true, false, ℕ, pos, ◌+ℤ◌, ◌≤ℤ◌, IsTrue, MatchOption, Some, length, unsigned_abs};
+ghost use Rattle.std.specs.Prelude.{◌≡◌, ◌≢◌, ◌≤◌, ◌<◌, ◌+◌, ◌^◌, ◌↔◌, ◌==◌, not, true, false, ℕ, pos, ◌+ℤ◌, ◌≤ℤ◌, IsTrue, MatchOption, Some, length, unsigned_abs};
 ghost use Rattle.bound_graph.specs.Values.{value_of};
 ghost use Rattle.flow_core.specs.Laws.{IsBalancedAtReadings};
 ghost use Rattle.flow_core.specs.Layout.{nodes_of};
@@ -7,7 +7,7 @@ ghost use Rattle.flow_core.specs.State.{IsNetwork};
 ghost use Rattle.path_flow.specs.declared.search.Label.{Label};
 ghost use Rattle.path_flow.specs.Flow.{HasSign, IsAugmented, IsLeft, amount_if};
 ghost use Rattle.path_flow.specs.Reach.{nothing_reached};
-ghost use Rattle.path_flow.specs.Saturation.{HasNoNegatives};
+ghost use Rattle.path_flow.specs.Steps.{HasNoNegatives};
 ghost use Rattle.path_flow.specs.Search.{IsEnd, label_at};
 ghost use Rattle.path_flow.specs.Searching.{AreFree};
 
@@ -88,7 +88,7 @@ fn discharge_once(net: &mut Network, labels: &mut Labels, node: u32, spare: i64)
     let task = Task {
         source: node,
         direction: direction_of(net.excess(node)),
-        ends_at_zero: is_some_or_none(spare),
+        ends_at_zero: is_not_negative(spare),
     };
     match augment(net, task, labels) {
         Some(gain) => plus(spare, gain),
@@ -97,7 +97,7 @@ fn discharge_once(net: &mut Network, labels: &mut Labels, node: u32, spare: i64)
 }
 
 /// Whether a number of units is not below 0.
-fn is_some_or_none(units: i64) -> bool
+fn is_not_negative(units: i64) -> bool
     ensures { IsTrue result ↔ (pos 0 ≤ℤ units) }
 {
     units >= 0

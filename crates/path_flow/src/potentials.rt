@@ -5,10 +5,9 @@ ghost use Rattle.flow_core.specs.Layout.{nodes_of};
 ghost use Rattle.flow_core.specs.State.{IsNetwork};
 ghost use Rattle.flow_core.specs.declared.limits.TheConstants.{MOST_VALUE};
 ghost use Rattle.path_flow.specs.Flow.{IsTightPath};
-ghost use Rattle.path_flow.specs.Saturation.{HasNoNegatives};
 ghost use Rattle.path_flow.specs.Search.{AreSmall, IsFound, IsShifted, label_at, nearer, positive_part, potential_after, signed};
 ghost use Rattle.path_flow.specs.Searching.{AreFree};
-ghost use Rattle.path_flow.specs.Steps.{ChangesPotentials};
+ghost use Rattle.path_flow.specs.Steps.{ChangesPotentials, HasNoNegatives};
 
 use crate::search::{Direction, Labels, Task};
 use flow_core::Network;

@@ -2,12 +2,12 @@
 ghost use Rattle.std.specs.Prelude.{◌≡◌, ◌≤◌, ◌<◌, ◌+◌, ◌*◌, ◌^◌, ◌↔◌, ℕ, pos, ◌+ℤ◌, ◌-ℤ◌, ◌<ℤ◌, get_or, length, sum, unsigned_abs, IsTrue};
 ghost use Rattle.words.specs.Lists.{total};
 ghost use Rattle.bound_graph.specs.Values.{RespectsArcs};
-ghost use Rattle.flow_core.specs.Layout.{arcs_of, nodes_of, priced_count};
+ghost use Rattle.flow_core.specs.Layout.{arcs_of, priced_count};
 ghost use Rattle.flow_core.specs.State.{IsNetwork, flow_on};
 ghost use Rattle.flow_core.specs.Views.{bare_arcs};
 ghost use Rattle.path_flow.specs.Flow.{excess_units, most_units};
-ghost use Rattle.path_flow.specs.Steps.{ChangesFlows, reduced_cost};
-ghost use Rattle.path_flow.specs.Saturation.{HasNoNegatives, IsSaturated, Saturates};
+ghost use Rattle.path_flow.specs.Steps.{ChangesFlows, HasNoNegatives, reduced_cost};
+ghost use Rattle.path_flow.specs.Saturation.{IsSaturated, Saturates};
 
 use bound_graph::ArcList;
 use flow_core::Network;
@@ -115,7 +115,10 @@ pub(crate) fn reduced_cost(net: &Network, arc: u32) -> i128
     ensures { result ≡ reduced_cost net.now arc }
 {
     let ends = net.arc(arc);
-    plus(ends.cost, difference(net.potential(ends.tail), net.potential(ends.head)))
+    plus(
+        ends.cost,
+        difference(net.potential(ends.tail), net.potential(ends.head)),
+    )
 }
 
 /// The difference of two potentials.

@@ -2,13 +2,12 @@
 ghost use Rattle.std.specs.Prelude.{◌≡◌, ◌≢◌, ◌≤◌, ◌<◌, ◌*◌, ◌/◌, ◌^◌, ◌↔◌, ℕ, ℤ, pos, ◌-ℤ◌, unsigned_abs, length, replicate, slice_set, All, IsTrue, IsNone, None, Some, MatchOption, IfOk, IfSome, Contains};
 ghost use Rattle.std.specs.List.{AllByRecursion};
 ghost use Rattle.words.specs.Lists.{Distinct};
-ghost use Rattle.bound_graph.specs.Graph.{leaving};
 ghost use Rattle.bound_graph.specs.Values.{value_of};
 ghost use Rattle.flow_core.specs.Layout.{arcs_of, nodes_of};
 ghost use Rattle.flow_core.specs.State.{IsNetwork};
 ghost use Rattle.node_heap.specs.Keys.{HasLeast};
 ghost use Rattle.path_flow.specs.Reach.{IsKeyed, is_better, lowered, nothing_reached};
-ghost use Rattle.path_flow.specs.Saturation.{HasNoNegatives};
+ghost use Rattle.path_flow.specs.Steps.{HasNoNegatives};
 ghost use Rattle.path_flow.specs.Search.{HasRoom, IsEnd, IsFound, arc_both_ways, is_odd, label_after, label_at, step_length, takes_from};
 ghost use Rattle.path_flow.specs.Searching.{AreFree, IsLast, IsSearching, StepsFrom, nothing_left, open_nodes};
 
@@ -20,7 +19,7 @@ use std::alloc::{AllocError, Global};
 use std::marker::Model;
 
 /// The way in which a search goes.
-#[derive(Clone, Copy, Debug, PartialEq, Eq)]
+#[derive(Clone, Copy)]
 pub(crate) enum Direction {
     /// From a node in excess over the arcs that leave.
     Forwards,
@@ -259,7 +258,11 @@ fn step_length(net: &Network, direction: Direction, number: u32) -> i128
     ensures size { unsigned_abs result ≤ 6 * 10 ^ 15 }
 {
     let cost = reduced_cost(net, number / 2);
-    if is_back(number, direction) { minus(cost) } else { cost }
+    if is_back(number, direction) {
+        minus(cost)
+    } else {
+        cost
+    }
 }
 
 /// A number negated.

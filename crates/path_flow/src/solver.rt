@@ -9,7 +9,7 @@ ghost use Rattle.flow_core.specs.Solving.{IsSolved};
 ghost use Rattle.flow_core.specs.State.{IsNetwork, IsNew, flow_on};
 ghost use Rattle.flow_core.specs.Views.{bare_arcs};
 ghost use Rattle.path_flow.specs.Flow.{excess_units, most_units};
-ghost use Rattle.path_flow.specs.Saturation.{HasNoNegatives};
+ghost use Rattle.path_flow.specs.Steps.{HasNoNegatives};
 ghost use Rattle.path_flow.specs.Searching.{AreFree};
 ghost use Rattle.path_flow.specs.Solver.{last_of, nodes_in};
 

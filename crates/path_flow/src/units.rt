@@ -15,7 +15,10 @@ pub(crate) fn spare_units(net: &Network) -> i64
     requires few { units_left net.now ≤ 2 * most_units net.now.network }
     ensures { result ≡ pos (most_units net.now.network) -ℤ pos (units_left net.now) }
 {
-    less(sum_of_weights(net) + sum_of_prices(net), units_at_readings(net))
+    less(
+        sum_of_weights(net) + sum_of_prices(net),
+        units_at_readings(net),
+    )
 }
 
 /// The difference of two numbers of units.

@@ -1,14 +1,14 @@
-use Rattle.std.proofs.Common.{◌≡◌, ◌≢◌, ◌<◌, ◌/◌, ℕ, ℤ, pos, ◌≤ℤ◌, List, Option, None, Some, w64, to_z, of_z, length, refl, sym, ap, ◌∙◌, subst, arith}
+use Rattle.std.proofs.Common.{◌≡◌, ◌<◌, ◌/◌, ℕ, ℤ, pos, ◌≤ℤ◌, List, Option, Some, w64, to_z, of_z, length, sym, ap, ◌∙◌, subst, arith}
 use Rattle.std.specs.Prelude.{FitsSigned}
 use Rattle.std.proofs.lemmas.Int.{to_z-of_z, ints}
 use Rattle.flow_core.specs.Layout.{FlowNetwork, arcs_of}
 use Rattle.flow_core.specs.State.{NetworkState, pushed, residual_of}
-use Rattle.path_flow.specs.declared.search.Task.{Task}
 use Rattle.path_flow.specs.declared.search.Label.{Label}
 use Rattle.path_flow.specs.Flow.{IsPushed}
 use Rattle.path_flow.specs.Search.{arc_both_ways, is_odd, label_at, takes_from}
+use Rattle.path_flow.proofs.Augmenting.{optimal_pushed}
 use Rattle.path_flow.proofs.Pathing.{nothing_pushed}
-use Rattle.path_flow.proofs.Tracing.{IsStepBack, at_end, linked_at, room_left, step_back}
+use Rattle.path_flow.proofs.Tracing.{at_end, linked_at, room_left, step_back}
 use Rattle.path_flow.proofs.Trees.{same_label}
 use Rattle.path_flow.proofs.augment.push_along.Invariants.{hops_of}
 use Rattle.path_flow.proofs.augment.push_along.Goals as goal
@@ -46,7 +46,6 @@ push-requires c =
       room = subst (λ b. amount ≤ℤ residual_of net (label.number / 2) b) (sym c.is_back.ensures) (subst (λ (z : ℤ). amount ≤ℤ z) (sym same) (omega (arith, ints, room, least)));
     }
 
-
 pub loop-node-preserved : goal.loop-node-preserved
 loop-node-preserved c =
     let old = c.args.net.now in
@@ -59,7 +58,7 @@ loop-node-preserved c =
     let new = c.push.ensures.pushed ∙ ap (λ b. pushed net (label.number / 2) b amount) c.is_back.ensures in
     let before = c.node_before-node.ensures ∙ ap (λ (s : NetworkState). (arc_both_ways s.network label.number).tail) c.push.ensures.pushed in
     let back = step_back old net c.push.new.self c.args.task labels c.args.end c.loop-node.node c.node_before-node.result amount label c.requires.network is.network c.requires.tree c.requires.tight room.0 room.1
-        is.pushed is.on c.loop-node-test.true (sym c.in-Some.ensures.label) (amount_some c.args.amount c.ranges.amount c.requires.some) new before in
+    is.pushed is.on c.loop-node-test.true (sym c.in-Some.ensures.label) (amount_some c.args.amount c.ranges.amount c.requires.some) new before in
     record { node = back.inside; pushed = back.pushed; network = c.push.ensures.network; on = back.on }
 
 falls : (labels : List (Option Label)) (node before : ℕ) (first second : Label) → label_at labels node ≡ Some first → label_at labels before ≡ Some second → second.hops < first.hops
@@ -78,7 +77,7 @@ loop-node-smaller c =
     let new = c.push.ensures.pushed ∙ ap (λ b. pushed net (label.number / 2) b amount) c.is_back.ensures in
     let before = c.node_before-node.ensures ∙ ap (λ (s : NetworkState). (arc_both_ways s.network label.number).tail) c.push.ensures.pushed in
     let back = step_back old net c.push.new.self c.args.task labels c.args.end c.loop-node.node c.node_before-node.result amount label c.requires.network is.network c.requires.tree c.requires.tight room.0 room.1
-        is.pushed is.on c.loop-node-test.true (sym c.in-Some.ensures.label) (amount_some c.args.amount c.ranges.amount c.requires.some) new before in
+    is.pushed is.on c.loop-node-test.true (sym c.in-Some.ensures.label) (amount_some c.args.amount c.ranges.amount c.requires.some) new before in
     falls labels c.loop-node.node c.node_before-node.result label back.on.label (sym c.in-Some.ensures.label) back.on.is (back.hops label back.on.label (sym c.in-Some.ensures.label) back.on.is)
 
 pub returns-in-None : goal.returns-in-None
@@ -91,3 +90,7 @@ returns-clause-pushed c =
     let labels = c.args.labels.now.labels in
     subst (λ (z : ℤ). IsPushed c.args.task labels c.args.end c.args.task.source z c.args.net.now c.loop-node.net) (to_z-of_z w64 c.args.amount c.ranges.amount)
     (subst (λ n. IsPushed c.args.task labels c.args.end n (to_z w64 (of_z w64 c.args.amount)) c.args.net.now c.loop-node.net) c.loop-node-test.false c.loop-node.invariant.pushed)
+
+pub returns-clause-optimal : goal.returns-clause-optimal
+returns-clause-optimal c =
+    optimal_pushed c.args.task c.args.labels.now.labels c.args.end c.loop-node.node (to_z w64 (of_z w64 c.args.amount)) c.args.net.now c.loop-node.net c.requires.optimal c.loop-node.invariant.pushed

@@ -1,17 +1,13 @@
-use Rattle.std.proofs.Common.{◌≡◌, ℤ, pos, ◌≤ℤ◌, w64, to_z, of_z, not, eqb, sym, ap, ◌∙◌, subst, arith}
+use Rattle.std.proofs.Common.{ℤ, pos, ◌≤ℤ◌, w64, to_z, of_z, sym, ◌∙◌, subst}
 use Rattle.std.specs.Prelude.{unsigned_abs}
 use Rattle.std.proofs.lemmas.Int.{to_z-of_z}
 use Rattle.bound_graph.specs.Values.{value_of}
-use Rattle.path_flow.specs.Flow.{IsAugmented, amount_if}
-use Rattle.path_flow.proofs.Augmenting.{augmented, optimal_pushed}
+use Rattle.path_flow.proofs.Augmenting.{augmented}
 use Rattle.path_flow.proofs.Shifting.{rooted_after}
 use Rattle.path_flow.proofs.discharge.augment.Goals as goal
 
 pub push_along-requires-clause-tree : goal.push_along-requires-clause-tree
 push_along-requires-clause-tree c = rooted_after c.args.net.now c.change_potentials.new.net c.args.task c.search.new.labels.labels c.requires.optimal c.in_ok-end.ensures.1.tree c.change_potentials.ensures.stays
-
-pub returns-clause-optimal : goal.returns-clause-optimal
-returns-clause-optimal c = optimal_pushed c.args.task c.search.new.labels.labels c.in_ok-end.end c.args.task.source _ c.change_potentials.new.net c.push_along.new.net c.change_potentials.ensures.optimal c.push_along.ensures.pushed
 
 pub returns-clause-augmented : goal.returns-clause-augmented
 returns-clause-augmented c =

@@ -1,4 +1,4 @@
-use Rattle.std.proofs.Common.{◌≡◌, ◌≤◌, ◌<◌, ◌+◌, suc, length, ℕ, ℤ, to_z, of_z, w64, refl, sym, ap, ◌∙◌, subst, arith}
+use Rattle.std.proofs.Common.{◌<◌, ◌+◌, suc, length, ℕ, to_z, of_z, w64, refl, sym, ap, ◌∙◌, subst, arith}
 use Rattle.std.proofs.lemmas.Int.{to_z-of_z}
 use Rattle.flow_core.specs.Layout.{FlowNetwork, nodes_of}
 use Rattle.path_flow.specs.Flow.{IsLeft}
@@ -45,7 +45,7 @@ returns c =
     let net = c.loop-node.net in
     let network = c.args.net.now.network in
     let all = λ (bound : ℕ) (left : IsLeft network bound c.args.net.now c.args.spare 1).
-        is.left bound (with_spare network bound c.args.net.now c.args.spare (to_z w64 (of_z w64 c.args.spare)) 1 (sym (to_z-of_z w64 c.args.spare c.ranges.spare)) left) in
+    is.left bound (with_spare network bound c.args.net.now c.args.spare (to_z w64 (of_z w64 c.args.spare)) 1 (sym (to_z-of_z w64 c.args.spare c.ranges.spare)) left) in
     let last = all c.requires.left.0 c.requires.left.1 in
     let values = ap (λ (n : FlowNetwork). length n.values) is.same in
     record {

@@ -1,9 +1,9 @@
-use Rattle.std.proofs.Common.{◌≡◌, ◌<◌, ℕ}
+use Rattle.std.proofs.Common.{◌≡◌, ℕ}
 use Rattle.flow_core.specs.Layout.{nodes_of}
 use Rattle.flow_core.specs.State.{IsNetwork}
 use Rattle.path_flow.specs.Flow.{IsLeft}
 use Rattle.path_flow.specs.Reach.{nothing_reached}
-use Rattle.path_flow.specs.Saturation.{HasNoNegatives}
+use Rattle.path_flow.specs.Steps.{HasNoNegatives}
 use Rattle.path_flow.proofs.discharge.discharge.Given as goal
 
 abbrev pub invariant-loop-node : goal.invariant-loop-node

@@ -1,12 +1,10 @@
-use Rattle.std.proofs.Common.{rules, ◌≡◌, ◌≤◌, ◌<◌, ◌^◌, Bool, true, false, true≢false, ℕ, ℤ, pos, ◌+ℤ◌, ◌≤ℤ◌, ◌<ℤ◌, w64, to_z, of_z, length, sym, ap, ◌∙◌, subst, arith}
+use Rattle.std.proofs.Common.{rules, ◌≡◌, ◌≤◌, ◌^◌, Bool, true, false, true≢false, ℤ, pos, ◌+ℤ◌, ◌≤ℤ◌, ◌<ℤ◌, w64, to_z, of_z, sym, ◌∙◌, subst}
 use Rattle.std.specs.Prelude.{unsigned_abs, FitsSigned, IsTrue}
-use Rattle.std.proofs.lemmas.Int.{to_z-of_z, ints, by_lt_z}
+use Rattle.std.proofs.lemmas.Int.{to_z-of_z, by_lt_z}
 use Rattle.bound_graph.specs.Values.{value_of}
-use Rattle.flow_core.specs.Layout.{FlowNetwork}
-use Rattle.flow_core.specs.State.{NetworkState}
 use Rattle.path_flow.specs.declared.search.Direction.{Direction}
 use Rattle.path_flow.specs.declared.search.Task.{Task}
-use Rattle.path_flow.specs.Flow.{HasSign, IsAugmented, IsLeft}
+use Rattle.path_flow.specs.Flow.{HasSign, IsLeft}
 use Rattle.path_flow.proofs.Augmenting.{spare_small, gain_small}
 use Rattle.path_flow.proofs.Discharging.{left_after, source_less, free_left, end_there}
 use Rattle.path_flow.proofs.discharge.discharge_once.Goals as goal
@@ -27,7 +25,7 @@ augment-requires-clause-free c = free_left c.args.net.now.network c.requires.lef
 pub augment-requires-clause-end : goal.augment-requires-clause-end
 augment-requires-clause-end c =
     let sign = sign_of c.direction_of.result c.excess.result (value_of c.args.net.now.excesses c.args.node) (record { sfits = c.excess.type_inv }) c.excess.ensures c.direction_of.ensures in
-    end_there c.args.net.now (record { source = c.args.node; direction = c.direction_of.result; ends_at_zero = c.is_some_or_none.result }) c.requires.network c.requires.left.1.whole sign
+    end_there c.args.net.now (record { source = c.args.node; direction = c.direction_of.result; ends_at_zero = c.is_not_negative.result }) c.requires.network c.requires.left.1.whole sign
 
 pub plus-requires-clause-spare : goal.plus-requires-clause-spare
 plus-requires-clause-spare c =
@@ -35,7 +33,7 @@ plus-requires-clause-spare c =
 
 pub plus-requires-clause-gain : goal.plus-requires-clause-gain
 plus-requires-clause-gain c =
-    let task : Task = record { source = c.args.node; direction = c.direction_of.result; ends_at_zero = c.is_some_or_none.result } in
+    let task : Task = record { source = c.args.node; direction = c.direction_of.result; ends_at_zero = c.is_not_negative.result } in
     let sign = sign_of c.direction_of.result c.excess.result (value_of c.args.net.now.excesses c.args.node) (record { sfits = c.excess.type_inv }) c.excess.ensures c.direction_of.ensures in
     let gain_fits : FitsSigned w64 c.in-Some.gain = search rules in
     subst (λ (z : ℤ). unsigned_abs z ≤ 2 ^ 40) (sym (to_z-of_z w64 c.in-Some.gain gain_fits))
@@ -43,7 +41,7 @@ plus-requires-clause-gain c =
 
 pub returns-in-Some-clause-left : goal.returns-in-Some-clause-left
 returns-in-Some-clause-left c =
-    let task : Task = record { source = c.args.node; direction = c.direction_of.result; ends_at_zero = c.is_some_or_none.result } in
+    let task : Task = record { source = c.args.node; direction = c.direction_of.result; ends_at_zero = c.is_not_negative.result } in
     let sign = sign_of c.direction_of.result c.excess.result (value_of c.args.net.now.excesses c.args.node) (record { sfits = c.excess.type_inv }) c.excess.ensures c.direction_of.ensures in
     let gain_fits : FitsSigned w64 c.in-Some.gain = search rules in
     let network = c.args.net.now.network in
@@ -51,11 +49,11 @@ returns-in-Some-clause-left c =
     to_z-of_z w64 c.plus.result (record { sfits = c.plus.type_inv }) ∙ c.plus.ensures ∙ (λ i. to_z-of_z w64 c.args.spare c.ranges.spare i +ℤ to_z-of_z w64 c.in-Some.gain gain_fits i) in
     λ bound left. subst (λ (z : ℤ). IsLeft network bound c.augment.new.net z c.args.node) (sym value)
     (left_after network bound task c.args.net.now c.augment.new.net c.args.spare c.in-Some.gain c.requires.network c.in-Some.ensures.network c.requires.reading c.requires.node sign
-    (when_some c.is_some_or_none.result c.args.spare c.ranges.spare c.is_some_or_none.ensures.0) (when_none c.is_some_or_none.result c.args.spare c.ranges.spare c.is_some_or_none.ensures.1)
+    (when_some c.is_not_negative.result c.args.spare c.ranges.spare c.is_not_negative.ensures.0) (when_none c.is_not_negative.result c.args.spare c.ranges.spare c.is_not_negative.ensures.1)
     c.in-Some.ensures.augmented left)
 
 pub returns-in-Some-clause-falls : goal.returns-in-Some-clause-falls
 returns-in-Some-clause-falls c =
-    let task : Task = record { source = c.args.node; direction = c.direction_of.result; ends_at_zero = c.is_some_or_none.result } in
+    let task : Task = record { source = c.args.node; direction = c.direction_of.result; ends_at_zero = c.is_not_negative.result } in
     let sign = sign_of c.direction_of.result c.excess.result (value_of c.args.net.now.excesses c.args.node) (record { sfits = c.excess.type_inv }) c.excess.ensures c.direction_of.ensures in
     source_less task c.args.net.now c.augment.new.net c.in-Some.gain c.requires.network c.in-Some.ensures.network c.requires.reading c.requires.node sign c.in-Some.ensures.augmented

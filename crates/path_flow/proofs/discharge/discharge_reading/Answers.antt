@@ -1,7 +1,6 @@
-use Rattle.std.proofs.Common.{◌≡◌, ◌≤◌, ◌<◌, ◌+◌, ℕ, ℤ, to_z, of_z, w64, refl, sym, ap, ◌∙◌, subst, arith}
+use Rattle.std.proofs.Common.{◌<◌, to_z, of_z, w64, refl, sym, ◌∙◌, subst}
 use Rattle.std.proofs.lemmas.Int.{to_z-of_z}
 use Rattle.flow_core.specs.Layout.{FlowNetwork, nodes_of}
-use Rattle.path_flow.specs.Flow.{IsLeft}
 use Rattle.path_flow.proofs.Discharging.{in_network, one_done, then, with_spare}
 use Rattle.path_flow.proofs.discharge.discharge_reading.Goals as goal
 

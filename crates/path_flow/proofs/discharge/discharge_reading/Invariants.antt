@@ -1,11 +1,11 @@
-use Rattle.std.proofs.Common.{◌≡◌, ◌<◌, ℕ}
+use Rattle.std.proofs.Common.{◌≡◌, ℕ}
 use Rattle.std.specs.Prelude.{unsigned_abs}
 use Rattle.bound_graph.specs.Values.{value_of}
 use Rattle.flow_core.specs.Layout.{nodes_of}
 use Rattle.flow_core.specs.State.{IsNetwork}
 use Rattle.path_flow.specs.Flow.{IsLeft}
 use Rattle.path_flow.specs.Reach.{nothing_reached}
-use Rattle.path_flow.specs.Saturation.{HasNoNegatives}
+use Rattle.path_flow.specs.Steps.{HasNoNegatives}
 use Rattle.path_flow.proofs.discharge.discharge_reading.Given as goal
 
 abbrev pub invariant-loop-net : goal.invariant-loop-net

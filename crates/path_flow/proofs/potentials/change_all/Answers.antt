@@ -1,16 +1,15 @@
-use Rattle.std.proofs.Common.{◌≡◌, ◌≤◌, ◌<◌, ◌^◌, ◌*◌, ◌+◌, ◌-ℤ◌, ℕ, ℤ, pos, List, Option, to_z, of_z, get_or, set, length, refl, sym, ap, ◌∙◌, subst, arith}
+use Rattle.std.proofs.Common.{◌≡◌, ◌≤◌, ◌<◌, ◌^◌, ◌*◌, ◌+◌, ◌-ℤ◌, ℕ, ℤ, List, Option, to_z, of_z, sym, ap, ◌∙◌, subst, arith}
 use Rattle.std.specs.Prelude.{unsigned_abs, FitsSigned}
 use Rattle.std.specs.Int.{w128}
 use Rattle.std.proofs.lemmas.Int.{to_z-of_z}
 use Rattle.bound_graph.specs.Values.{value_of}
 use Rattle.flow_core.specs.declared.limits.TheConstants.{MOST_VALUE}
 use Rattle.flow_core.specs.Layout.{FlowNetwork, nodes_of}
-use Rattle.flow_core.specs.State.{NetworkState, IsNetwork}
+use Rattle.flow_core.specs.State.{NetworkState}
 use Rattle.path_flow.specs.declared.search.Direction.{Direction}
 use Rattle.path_flow.specs.declared.search.Label.{Label}
 use Rattle.path_flow.specs.Search.{label_at, nearer, potential_after, signed}
-use Rattle.path_flow.specs.Steps.{ChangesPotentials}
-use Rattle.path_flow.proofs.Moving.{IsMovedBelow, first_moved, next_moved, zero_after}
+use Rattle.path_flow.proofs.Moving.{IsMovedBelow, first_moved, next_moved}
 use Rattle.path_flow.proofs.Starting.{changes_none, set_changes}
 use Rattle.path_flow.proofs.potentials.change_all.Goals as goal
 
@@ -60,7 +59,7 @@ change_by-requires c =
     let is = c.loop-node.invariant in
     let below : node < nodes_of net.network = omega (arith, c.loop-node-test.true, c.nodes-node-end.ensures.count) in
     let value = comes_to c.args.direction labels (to_z w128 (of_z w128 c.args.far)) node net.potentials c.loop-node.net.potentials c.nearer.result c.nearer-all.result c.less.result is.moved
-        (record { sfits = c.nearer.type_inv }) (record { sfits = c.nearer-all.type_inv }) (record { sfits = c.less.type_inv }) c.nearer.ensures.nearer c.nearer-all.ensures.nearer c.less.ensures.difference in
+    (record { sfits = c.nearer.type_inv }) (record { sfits = c.nearer-all.type_inv }) (record { sfits = c.less.type_inv }) c.nearer.ensures.nearer c.nearer-all.ensures.nearer c.less.ensures.difference in
     record {
       node = subst (λ (n : FlowNetwork). node < nodes_of n) (sym is.stays.network) below;
       by = small c.less.result (4 * 10 ^ 30) (record { sfits = c.less.type_inv }) c.less.ensures.size;
@@ -77,7 +76,7 @@ loop-node-preserved c =
     let far = to_z w128 (of_z w128 c.args.far) in
     let below : node < nodes_of net.network = omega (arith, c.loop-node-test.true, c.nodes-node-end.ensures.count) in
     let value = comes_to c.args.direction labels far node net.potentials c.loop-node.net.potentials c.nearer.result c.nearer-all.result c.less.result is.moved
-        (record { sfits = c.nearer.type_inv }) (record { sfits = c.nearer-all.type_inv }) (record { sfits = c.less.type_inv }) c.nearer.ensures.nearer c.nearer-all.ensures.nearer c.less.ensures.difference in
+    (record { sfits = c.nearer.type_inv }) (record { sfits = c.nearer-all.type_inv }) (record { sfits = c.less.type_inv }) c.nearer.ensures.nearer c.nearer-all.ensures.nearer c.less.ensures.difference in
     let long = is.network.potential_each ∙ ap nodes_of is.stays.network in
     let moved = next_moved c.args.direction labels far node net.potentials c.loop-node.net.potentials (value_of c.loop-node.net.potentials node -ℤ signed c.args.direction (to_z w128 (of_z w128 c.less.result))) is.moved (omega (arith, long, below)) value in
     record {

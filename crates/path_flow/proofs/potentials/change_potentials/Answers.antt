@@ -1,15 +1,13 @@
-use Rattle.std.proofs.Common.{◌≡◌, ◌≤◌, ◌<◌, ◌^◌, ℕ, ℤ, List, Option, Some, None, FitsSigned, rules, to_z, of_z, length, refl, sym, ap, ◌∙◌, subst, arith}
+use Rattle.std.proofs.Common.{◌≡◌, ◌≤◌, ◌^◌, ℕ, ℤ, List, Option, Some, FitsSigned, rules, to_z, of_z, length, sym, ap, ◌∙◌, subst, arith}
 use Rattle.std.specs.Prelude.{unsigned_abs}
 use Rattle.std.specs.Int.{w128}
 use Rattle.std.proofs.lemmas.Int.{to_z-of_z}
 use Rattle.flow_core.specs.declared.limits.TheConstants.{MOST_VALUE}
 use Rattle.flow_core.specs.Layout.{FlowNetwork, arcs_of, nodes_of}
-use Rattle.flow_core.specs.State.{NetworkState, IsNetwork}
+use Rattle.flow_core.specs.State.{NetworkState}
 use Rattle.path_flow.specs.declared.search.Task.{Task}
 use Rattle.path_flow.specs.declared.search.Label.{Label}
-use Rattle.path_flow.specs.Saturation.{HasNoNegatives}
-use Rattle.path_flow.specs.Search.{IsFound, IsSearched, IsShifted, label_at, potential_after}
-use Rattle.path_flow.specs.Searching.{AreFree}
+use Rattle.path_flow.specs.Search.{IsFound, IsShifted, label_at, potential_after}
 use Rattle.path_flow.proofs.Moving.{within_after}
 use Rattle.path_flow.proofs.Shifting.{shifted_done}
 use Rattle.path_flow.proofs.Tightening.{all_small, tight_path}

@@ -11,7 +11,6 @@ use Rattle.flow_core.specs.State.{NetworkState, IsNetwork}
 use Rattle.path_flow.specs.declared.search.Direction.{Direction}
 use Rattle.path_flow.specs.declared.search.Label.{Label}
 use Rattle.path_flow.specs.Search.{label_at, nearer, potential_after, signed}
-use Rattle.path_flow.specs.Steps.{ChangesPotentials}
 use Rattle.path_flow.proofs.Moving.{IsPartly, none_moved, one_moved, untouched, value_by, zero_after, all_moved}
 use Rattle.path_flow.proofs.Starting.{changes_none, set_changes}
 use Rattle.path_flow.proofs.Views.{all_get}
@@ -63,7 +62,7 @@ change_by-requires c =
     let below = inside labels.labels labels.reached items i (nodes_of net.network) c.reached-node-items.ensures.reached c.reached-node-items.ensures.nodes c.loop-node-test.true c.requires.size in
     let by = by_is labels.labels (get_or items i 0) c.args.far c.nearer.result c.ranges.far (record { sfits = c.nearer.type_inv }) c.nearer.ensures.nearer in
     let value = comes_to c.args.direction labels.labels labels.reached items i c.args.far (to_z w128 (of_z w128 c.nearer.result)) net.potentials c.loop-node.net.potentials c.reached-node-items.ensures.reached c.reached-node-items.ensures.distinct c.loop-node-test.true
-        (with_far c.args.direction labels.labels c.args.far labels.reached i net.potentials c.loop-node.net.potentials c.ranges.far is.partly) by c.requires.zero in
+    (with_far c.args.direction labels.labels c.args.far labels.reached i net.potentials c.loop-node.net.potentials c.ranges.far is.partly) by c.requires.zero in
     let small : unsigned_abs c.nearer.result ≤ 4 * 10 ^ 30 = omega (arith, c.nearer.ensures.size) in
     record {
       node = subst (λ (n : FlowNetwork). get_or items i 0 < nodes_of n) (sym is.stays.network) below;
@@ -83,13 +82,13 @@ loop-node-preserved c =
     let by = by_is labels.labels (get_or items i 0) c.args.far c.nearer.result c.ranges.far (record { sfits = c.nearer.type_inv }) c.nearer.ensures.nearer in
     let same = c.reached-node-items.ensures.reached in
     let value = comes_to c.args.direction labels.labels labels.reached items i c.args.far (to_z w128 (of_z w128 c.nearer.result)) net.potentials c.loop-node.net.potentials same c.reached-node-items.ensures.distinct c.loop-node-test.true
-        (with_far c.args.direction labels.labels c.args.far labels.reached i net.potentials c.loop-node.net.potentials c.ranges.far is.partly) by c.requires.zero in
+    (with_far c.args.direction labels.labels c.args.far labels.reached i net.potentials c.loop-node.net.potentials c.ranges.far is.partly) by c.requires.zero in
     let long = is.network.potential_each ∙ ap nodes_of is.stays.network in
     let set_to = value_of c.loop-node.net.potentials (get_or items i 0) -ℤ signed c.args.direction (to_z w128 (of_z w128 c.nearer.result)) in
     let moved = one_moved c.args.direction labels.labels c.args.far labels.reached i net.potentials c.loop-node.net.potentials set_to (with_far c.args.direction labels.labels c.args.far labels.reached i net.potentials c.loop-node.net.potentials c.ranges.far is.partly) c.reached-node-items.ensures.distinct
-        (subst (λ (l : List ℕ). i < length l) same c.loop-node-test.true)
-        (omega (arith, long, subst (λ (l : List ℕ). get_or l i 0 < nodes_of net.network) same below))
-        (subst (λ (l : List ℕ). set_to ≡ potential_after c.args.direction labels.labels c.args.far net.potentials (get_or l i 0)) same value) in
+    (subst (λ (l : List ℕ). i < length l) same c.loop-node-test.true)
+    (omega (arith, long, subst (λ (l : List ℕ). get_or l i 0 < nodes_of net.network) same below))
+    (subst (λ (l : List ℕ). set_to ≡ potential_after c.args.direction labels.labels c.args.far net.potentials (get_or l i 0)) same value) in
     record {
       network = c.change_by.ensures.network;
       stays = set_changes net c.loop-node.net c.change_by.new.net _ is.stays c.change_by.ensures.changed;

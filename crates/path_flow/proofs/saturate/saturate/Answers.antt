@@ -1,4 +1,4 @@
-use Rattle.std.proofs.Common.{◌<◌, ◌+◌, ◌≤◌, ◌≡◌, ℤ, pos, sum, get_or, length, sym, ap, ◌∙◌, subst, arith}
+use Rattle.std.proofs.Common.{sum, length, sym, ap, ◌∙◌, subst, arith}
 use Rattle.flow_core.specs.Layout.{FlowNetwork, arcs_of}
 use Rattle.path_flow.specs.Flow.{most_units}
 use Rattle.path_flow.specs.Saturation.{IsSaturated}

@@ -1,4 +1,4 @@
-use Rattle.std.proofs.Common.{ℤ, pos, ◌≤ℤ◌, ◌≡◌, ◌<◌, ◌≤◌, ℕ, List, count_by, sum, not, eqb, length, get_or, ap, sym, ◌∙◌, subst, arith}
+use Rattle.std.proofs.Common.{pos, ◌≤ℤ◌, ◌≡◌, ◌<◌, ◌≤◌, ℕ, List, count_by, sum, not, eqb, length, get_or, ap, sym, ◌∙◌, subst, arith}
 use Rattle.std.proofs.lemmas.List.{take_all}
 use Rattle.path_flow.specs.Flow.{excess_units}
 use Rattle.path_flow.specs.Steps.{reduced_cost}

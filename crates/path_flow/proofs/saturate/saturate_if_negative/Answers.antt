@@ -1,4 +1,4 @@
-use Rattle.std.proofs.Common.{w64, to_z, of_z, false, ℤ, ap, ◌∙◌}
+use Rattle.std.proofs.Common.{w64, false, ℤ, ap, ◌∙◌}
 use Rattle.std.proofs.lemmas.Int.{to_z-of_z}
 use Rattle.flow_core.specs.State.{pushed}
 use Rattle.path_flow.proofs.Saturating.{filled}

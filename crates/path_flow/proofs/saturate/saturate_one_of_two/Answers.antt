@@ -1,13 +1,12 @@
-use Rattle.std.proofs.Common.{length, get_or, ℕ, ℤ, pos, ◌≡◌, ◌≤ℤ◌, true≢false, sym, ap, ◌+◌, ◌*◌, ◌∙◌, subst, arith}
-use Rattle.std.specs.Prelude.{◌-ℤ◌, ◌≤◌, ◌<◌}
+use Rattle.std.proofs.Common.{length, get_or, ℕ, pos, ◌≡◌, ◌≤ℤ◌, true≢false, sym, ◌+◌, ◌*◌, ◌∙◌, subst, arith}
+use Rattle.std.specs.Prelude.{◌-ℤ◌, ◌<◌}
 use Rattle.std.proofs.lemmas.Int.{ints, by_lt_z}
 use Rattle.flow_core.specs.Layout.{arcs_of, capacity_numbered}
 use Rattle.flow_core.specs.State.{NetworkState}
 use Rattle.flow_core.proofs.Sizes.{length-arcs_of}
-use Rattle.path_flow.specs.Flow.{excess_units}
 use Rattle.path_flow.specs.Steps.{reduced_cost}
-use Rattle.path_flow.specs.Saturation.{HasNoNegative, IsSaturated, Saturates}
-use Rattle.path_flow.proofs.Saturating.{empty_done, kept, both_done, opposite, no_negative_kept, cost_kept, weight_of, second_weight_of}
+use Rattle.path_flow.specs.Saturation.{IsSaturated}
+use Rattle.path_flow.proofs.Saturating.{empty_done, kept, both_done, opposite, cost_kept, weight_of, second_weight_of}
 use Rattle.path_flow.proofs.saturate.saturate_one_of_two.Goals as goal
 
 first_below : (net : NetworkState) (reading bounds : ℕ) → bounds ≡ length net.network.bounds → reading < length net.network.values → (bounds + 2 * reading < length (arcs_of net.network)) × (bounds + 2 * reading + 1 < length (arcs_of net.network))

@@ -1,4 +1,4 @@
-use Rattle.std.proofs.Common.{◌≡◌, ◌≤◌, ◌<◌, ◌+◌, ◌*◌, ℕ, List, length, get_or, sum, take, refl, sym, ap, ◌∙◌, subst, arith}
+use Rattle.std.proofs.Common.{◌≡◌, ◌≤◌, ◌+◌, ◌*◌, ℕ, List, length, get_or, sum, refl, sym, ap, ◌∙◌, subst, arith}
 use Rattle.std.proofs.lemmas.List.{take_all}
 use Rattle.std.proofs.lemmas.List.Sums.{sum_by_more}
 use Rattle.flow_core.specs.Layout.{FlowNetwork}
@@ -37,7 +37,7 @@ loop-reading-preserved c =
     let count : length c.loop-reading.net.network.bounds + 2 * reading + 2 ≡ length c.args.net.now.network.bounds + 2 * (reading + 1) = omega (arith, bounds) in
     let weights = ap (λ (n : FlowNetwork). get_or n.weights reading 0) was.saturated.network in
     let more = sum_by_more (λ (x : ℕ). x) c.args.net.now.network.weights reading 0
-        (omega (arith, c.requires.network.layout.weighted, c.loop-reading-test.true, c.loop-reading.auto.reading-end, c.nodes-reading-end.ensures.count)) in
+    (omega (arith, c.requires.network.layout.weighted, c.loop-reading-test.true, c.loop-reading.auto.reading-end, c.nodes-reading-end.ensures.count)) in
     record {
       network = step.network;
       saturated = based_on _ _ c.args.net.now c.loop-reading.net c.saturate_one_of_two.new.net was.saturated

@@ -1,4 +1,4 @@
-use Rattle.std.proofs.Common.{◌≡◌, ◌<◌, ◌+◌, ℕ, zero, suc, List, [], ◌∷◌, Option, Some, None, length, get_or, drop, inl, refl, sym, ap, ◌∙◌, subst, add-one, drop-cons, arith}
+use Rattle.std.proofs.Common.{◌≡◌, ◌<◌, ◌+◌, ℕ, zero, suc, List, [], ◌∷◌, Some, length, get_or, drop, inl, refl, sym, ◌∙◌, subst, add-one, drop-cons, arith}
 use Rattle.std.specs.Prelude.{Contains}
 use Rattle.bound_graph.specs.Graph.{leaving}
 use Rattle.flow_core.specs.Layout.{arcs_of}
@@ -8,7 +8,7 @@ use Rattle.path_flow.specs.declared.search.Task.{Task}
 use Rattle.path_flow.specs.declared.search.Label.{Label}
 use Rattle.path_flow.specs.Reach.{Reach}
 use Rattle.path_flow.specs.Search.{label_at}
-use Rattle.path_flow.specs.Searching.{IsAmong, IsLast, IsSearching, StepsFrom, nothing_left, open_nodes}
+use Rattle.path_flow.specs.Searching.{IsAmong, IsLast, IsSearching, StepsFrom}
 use Rattle.path_flow.proofs.Trees.{distance_small, hops_small, same_label}
 use Rattle.path_flow.proofs.Numbers.{IsLeaving, leaving_is, is_leaving}
 use Rattle.path_flow.proofs.Expanding.{passed}
@@ -73,7 +73,7 @@ loop-number-preserved c =
     let searching : IsSearching net c.args.task (IsAmong (get_or items i 0 ∷ drop (i + 1) xs)) c.loop-number.labels =
     subst (λ (l : List ℕ). IsSearching net c.args.task (IsAmong l) c.loop-number.labels) (front xs items i c.out_arcs-number-items.ensures c.loop-number-test.true) is.searching in
     let stepped = step_over net c.args.task c.loop-number.labels c.reach_over.new.labels node (get_or items i 0) (drop (i + 1) xs) c.in-Some.last c.requires.network c.requires.optimal searching is.is_last leave.tail leave.below is.same
-        c.reach_over.ensures.none c.reach_over.ensures.some in
+    c.reach_over.ensures.none c.reach_over.ensures.some in
     record {
       searching = stepped.searching;
       is_last = stepped.is_last;

@@ -1,14 +1,11 @@
-use Rattle.std.proofs.Common.{ℕ, ℤ, ◌≡◌, ◌+◌, ◌*◌, ◌^◌, ◌+ℤ◌, ◌≤◌, ◌<◌, ◌/◌, FitsSigned, w64, length, rules, to_z, of_z, arith, sym, ap, ◌∙◌, subst}
-use Rattle.std.specs.Prelude.{unsigned_abs}
+use Rattle.std.proofs.Common.{ℤ, ◌≡◌, ◌+◌, ◌+ℤ◌, ◌/◌, FitsSigned, w64, rules, to_z, of_z, arith, ap, ◌∙◌}
 use Rattle.std.specs.Int.{w128, int_min}
 use Rattle.std.proofs.lemmas.Int.{to_z-of_z}
-use Rattle.bound_graph.specs.declared.arc.Arc.{Arc}
 use Rattle.flow_core.specs.Layout.{nodes_of, arc_numbered}
 use Rattle.flow_core.specs.State.{residual_of}
 use Rattle.flow_core.proofs.Sizes.{arc_valid}
-use Rattle.path_flow.specs.declared.search.Label.{Label}
 use Rattle.path_flow.specs.Reach.{lowered}
-use Rattle.path_flow.specs.Search.{arc_both_ways, is_odd, label_after}
+use Rattle.path_flow.specs.Search.{is_odd, label_after}
 use Rattle.path_flow.proofs.Shifting.{turned_valid}
 use Rattle.path_flow.proofs.Lengths.{sum_fits}
 use Rattle.path_flow.proofs.search.reach_over.Goals as goal

@@ -1,14 +1,12 @@
-use Rattle.std.proofs.Common.{slice_index_or, ◌≡◌, ◌≢◌, ◌<◌, ◌+◌, ◌^◌, ℕ, ℤ, pos, w64, to_z, of_z, Option, Some, None, true, false, length, refl, sym, ap, ◌∙◌, subst, arith}
-use Rattle.std.specs.Prelude.{unsigned_abs, IsNone, IfSome, replicate, IsTrue}
+use Rattle.std.proofs.Common.{slice_index_or, ◌<◌, ◌^◌, ℤ, pos, w64, Option, None, length, refl, sym, ap, ◌∙◌, subst, arith}
+use Rattle.std.specs.Prelude.{unsigned_abs, IfSome}
 use Rattle.std.proofs.lemmas.Int.{to_z-of_z}
 use Rattle.std.proofs.lemmas.List.{length-replicate}
-use Rattle.bound_graph.specs.Values.{value_of}
 use Rattle.flow_core.specs.Layout.{nodes_of}
 use Rattle.flow_core.proofs.Sizes.{excess_small}
 use Rattle.path_flow.specs.declared.search.Label.{Label}
 use Rattle.path_flow.specs.Search.{label_at}
-use Rattle.path_flow.specs.Reach.{HasDistance, Reach, nothing_reached}
-use Rattle.path_flow.specs.Searching.{open_nodes}
+use Rattle.path_flow.specs.Reach.{HasDistance, Reach}
 use Rattle.path_flow.proofs.Beginning.{begun, none_in}
 use Rattle.path_flow.proofs.Popping.{popped_inside, found_end, goes_on, settled_last, fewer_open}
 use Rattle.path_flow.proofs.Searching.{some_waits}
@@ -61,9 +59,10 @@ loop-node-smaller c =
 
 pub returns-then-is_end : goal.returns-then-is_end
 returns-then-is_end c =
-    let least = c.in-Some.ensures.nearest in
-    (popped_inside c.args.net.now c.args.task c.loop-node.labels c.in-Some.node least.0 c.loop-node.invariant c.in-Some.ensures.size least.1,
-    found_end c.args.net.now c.args.task c.loop-node.labels c.pop_nearest.new.self c.in-Some.node least c.loop-node.invariant c.in-Some.ensures.taken (c.is_end.ensures.0 c.if-is_end.true))
+    let least = c.in-Some.ensures.nearest in (
+      popped_inside c.args.net.now c.args.task c.loop-node.labels c.in-Some.node least.0 c.loop-node.invariant c.in-Some.ensures.size least.1,
+      found_end c.args.net.now c.args.task c.loop-node.labels c.pop_nearest.new.self c.in-Some.node least c.loop-node.invariant c.in-Some.ensures.taken (c.is_end.ensures.0 c.if-is_end.true),
+    )
 
 pub returns : goal.returns
 returns c =

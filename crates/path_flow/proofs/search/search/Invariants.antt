@@ -1,4 +1,3 @@
-use Rattle.std.proofs.Common.{◌≡◌, length}
 use Rattle.path_flow.specs.Searching.{IsSearching, nothing_left, open_nodes}
 use Rattle.path_flow.proofs.search.search.Given as goal
 

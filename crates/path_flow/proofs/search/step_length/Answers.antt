@@ -1,10 +1,10 @@
-use Rattle.std.proofs.Common.{ℤ, ◌≡◌, pos, ◌-ℤ◌, ◌*◌, ◌^◌, ◌≤◌, ◌/◌, true, false, FitsSigned, rules, to_z, of_z, arith, sym, ap, ◌∙◌, subst}
+use Rattle.std.proofs.Common.{ℤ, pos, ◌-ℤ◌, ◌*◌, ◌^◌, ◌≤◌, ◌/◌, arith, sym, ap, ◌∙◌, subst}
 use Rattle.std.specs.Prelude.{unsigned_abs}
 use Rattle.std.specs.Int.{w128}
 use Rattle.std.proofs.lemmas.Int.{to_z-of_z}
 use Rattle.words.proofs.Products.{size_of_minus}
 use Rattle.path_flow.specs.Steps.{reduced_cost}
-use Rattle.path_flow.specs.Search.{is_odd, takes_from}
+use Rattle.path_flow.specs.Search.{is_odd}
 use Rattle.path_flow.proofs.Lengths.{length_back, length_ahead, cost_small}
 use Rattle.path_flow.proofs.search.step_length.Goals as goal
 

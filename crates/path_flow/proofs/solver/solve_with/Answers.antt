@@ -1,4 +1,4 @@
-use Rattle.std.proofs.Common.{◌≡◌, ℤ, List, sym, ap, ◌∙◌, arith}
+use Rattle.std.proofs.Common.{ap, ◌∙◌}
 use Rattle.words.specs.Lists.{total}
 use Rattle.path_flow.proofs.Solved.{forbidden, is_solved, new_is_whole}
 use Rattle.path_flow.proofs.solver.solve_with.Goals as goal

@@ -1,11 +1,11 @@
-use Rattle.std.proofs.Common.{w64, to_z, of_z, ◌<◌, ℕ, ℤ, List, length, sym, ap, ◌∙◌, subst, arith}
+use Rattle.std.proofs.Common.{w64, to_z, of_z, ℤ, sym, ap, ◌∙◌, subst, arith}
 use Rattle.std.specs.Prelude.{◌≤◌, ◌≡◌, unsigned_abs, ◌-ℤ◌}
 use Rattle.std.specs.Int.{w128}
 use Rattle.std.proofs.lemmas.Int.{to_z-of_z}
 use Rattle.bound_graph.specs.Values.{value_of, RespectsArcs}
 use Rattle.flow_core.specs.declared.limits.TheConstants.{MOST_VALUE}
 use Rattle.flow_core.specs.State.{NetworkState}
-use Rattle.flow_core.specs.Layout.{FlowNetwork, IsLayout, nodes_of}
+use Rattle.flow_core.specs.Layout.{IsLayout, nodes_of}
 use Rattle.path_flow.proofs.Starting.{relative_within, relative_respect, same_bare, set_changes, one_more}
 use Rattle.path_flow.proofs.starts.take_distances.Goals as goal
 

@@ -1,4 +1,4 @@
-use Rattle.std.proofs.Common.{◌≡◌, ◌<◌, ℕ, pos, ◌-ℤ◌, length, get_or}
+use Rattle.std.proofs.Common.{◌≡◌, ◌<◌, ℕ, ◌-ℤ◌}
 use Rattle.flow_core.specs.State.{IsNetwork}
 use Rattle.bound_graph.specs.Values.{value_of}
 use Rattle.path_flow.specs.Steps.{ChangesPotentials}

@@ -1,4 +1,4 @@
-use Rattle.std.proofs.Common.{◌≡◌, ◌*◌, ℤ, pos, sym, ap, ◌∙◌, arith}
+use Rattle.std.proofs.Common.{◌*◌, sym, ap, ◌∙◌}
 use Rattle.bound_graph.specs.Arcs.{arc_at}
 use Rattle.flow_core.specs.State.{NetworkState}
 use Rattle.flow_core.specs.Views.{bare_arcs}

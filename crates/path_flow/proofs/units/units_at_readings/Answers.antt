@@ -1,4 +1,4 @@
-use Rattle.std.proofs.Common.{◌≡◌, ℤ, to_z, of_z, w64, ap, ◌∙◌, arith}
+use Rattle.std.proofs.Common.{w64, ap, ◌∙◌, arith}
 use Rattle.std.specs.Prelude.{unsigned_abs}
 use Rattle.std.proofs.lemmas.Int.{to_z-of_z}
 use Rattle.path_flow.proofs.Weighing.{most_small, units_more, units_within}

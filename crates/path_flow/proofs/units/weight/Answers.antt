@@ -1,4 +1,4 @@
-use Rattle.std.proofs.Common.{◌≡◌, ◌+◌, ◌*◌, get_or, ap, sym, ◌∙◌, subst, arith}
+use Rattle.std.proofs.Common.{◌+◌, ◌*◌, ap, ◌∙◌, arith}
 use Rattle.flow_core.specs.Layout.{capacity_numbered}
 use Rattle.flow_core.proofs.Sizes.{length-arcs_of}
 use Rattle.path_flow.proofs.Saturating.{weight_of}

@@ -1,12 +1,11 @@
-use Rattle.std.proofs.Common.{arith, sym, ap, refl, not, slice_index_or, ◌∙◌, ◌<◌, ◌++◌, ◌+◌, [], ◌∷◌, FitsSigned, rules, to_z, of_z, ℕ, ℤ, ◌≡◌, List, Option, Some, None, true, false, IfSome, length, set, take, subst}
+use Rattle.std.proofs.Common.{arith, sym, ap, refl, not, slice_index_or, ◌∙◌, ◌<◌, FitsSigned, rules, to_z, of_z, ℕ, ℤ, ◌≡◌, List, Option, Some, None, IfSome, length, set, take, subst}
 use Rattle.std.specs.Int.{w128}
-use Rattle.std.specs.Prelude.{is_some}
-use Rattle.std.proofs.lemmas.Int.{to_z-of_z, ints}
+use Rattle.std.proofs.lemmas.Int.{to_z-of_z}
 use Rattle.std.proofs.lemmas.List.{length-set, take_more_set}
 use Rattle.path_flow.specs.declared.search.Label.{Label}
-use Rattle.path_flow.specs.Reach.{HasDistance, IsReach, Reach, is_better, lowered}
+use Rattle.path_flow.specs.Reach.{HasDistance, Reach, lowered}
 use Rattle.path_flow.specs.Search.{label_at}
-use Rattle.path_flow.proofs.Reaching.{room_for, read_is, key_falls, none_of, some_of, reach_more, reach_again, lowered_first, lowered_again}
+use Rattle.path_flow.proofs.Reaching.{room_for, read_is, key_falls, none_of, some_of, reach_more, reach_again, lowered_first}
 use Rattle.path_flow.proofs.search.Labels.lower.Goals as goal
 
 -- the label that was read, and the reach as it was
@@ -31,8 +30,8 @@ index_mut-requires-then-is_none c =
     let labels = ap (λ (r : Reach). r.labels) (sym c.self.view_is) in
     let before = read c.self.inside.labels.items c.args.self.now c.args.node c.index.result.now labels c.requires.node c.index.ensures in
     let room = room_for c.self.inside.count (length c.self.inside.reached.items) _ c.self.inside.reached.items c.args.node c.self.invariant refl refl
-        (below_len c.self.inside.labels.items c.args.self.now c.args.node labels c.requires.node)
-        (before ∙ none_of c.index.result.now (c.is_none.ensures ∙ ap (λ b. not b) c.if-is_none.true)) in
+    (below_len c.self.inside.labels.items c.args.self.now c.args.node labels c.requires.node)
+    (before ∙ none_of c.index.result.now (c.is_none.ensures ∙ ap (λ b. not b) c.if-is_none.true)) in
     search (rules, room)
 
 pub overflow_add-self : goal.overflow_add-self
@@ -40,8 +39,8 @@ overflow_add-self c =
     let labels = ap (λ (r : Reach). r.labels) (sym c.self.view_is) in
     let before = read c.self.inside.labels.items c.args.self.now c.args.node c.index.result.now labels c.requires.node c.index.ensures in
     let room = room_for c.self.inside.count (length c.self.inside.reached.items) _ c.self.inside.reached.items c.args.node c.self.invariant refl refl
-        (below_len c.self.inside.labels.items c.args.self.now c.args.node labels c.requires.node)
-        (before ∙ none_of c.index.result.now (c.is_none.ensures ∙ ap (λ b. not b) c.if-is_none.true)) in
+    (below_len c.self.inside.labels.items c.args.self.now c.args.node labels c.requires.node)
+    (before ∙ none_of c.index.result.now (c.is_none.ensures ∙ ap (λ b. not b) c.if-is_none.true)) in
     let few = c.self.invariant.few in
     let long = c.self.invariant.room in
     record { fits = omega (arith, room, few, long) }
