@@ -1,14 +1,15 @@
 #!/usr/bin/env bash
 # Runs a proved function and its plain twin in turn on the same inputs, and prints the best time of each for
 # one item and the ratio of the proved time to the plain one. `records` runs texts of three forms, each fed byte by
-# byte and by slices. `table` reads and writes readings files of two and of eight columns, and prints for a row. For the
+# byte and by slices. `table` reads and writes readings files of two and of eight columns, and prints for a row. `bounds`
+# makes the bounds of a speed rule and of a swing rule, and tests the readings by them, and prints for a bound. For the
 # blocked chain it also prints the ratio of its proved time to that of the chain that
 # settles.
 #
-# usage: bench/run.sh units|text_of|ticks|records|table|settle|blocked [ROUNDS]
+# usage: bench/run.sh units|text_of|ticks|records|table|bounds|settle|blocked [ROUNDS]
 set -euo pipefail
 cd "$(dirname "$0")/.."
-what=${1:?usage: bench/run.sh units|text_of|ticks|records|table|settle|blocked [ROUNDS]}
+what=${1:?usage: bench/run.sh units|text_of|ticks|records|table|bounds|settle|blocked [ROUNDS]}
 rounds=${2:-5}
 
 # The blocked chain is settled by the same twin as the other one.
@@ -24,10 +25,10 @@ test -x "$proved" || { tail -n 20 bench/out/build.log; exit 1; }
 
 # compare NAME: both sides in turn, and the best time of each.
 compare() {
-    local name=$1 plain_time plain_sum proved_time proved_sum bytes best_plain= best_proved=
+    local name=$1 plain_time plain_sum proved_time proved_sum bytes size best_plain= best_proved=
     for _ in $(seq "$rounds"); do
         read -r plain_time plain_sum bytes < <("bench/out/$twin" "$name")
-        read -r proved_time proved_sum _ < <("$proved" "$name")
+        read -r proved_time proved_sum size < <("$proved" "$name")
         [ "$plain_sum" = "$proved_sum" ] || { echo "the answers differ: $plain_sum and $proved_sum"; exit 1; }
         [ -n "$best_plain" ] && [ "$best_plain" -le "$plain_time" ] || best_plain=$plain_time
         [ -n "$best_proved" ] && [ "$best_proved" -le "$proved_time" ] || best_proved=$proved_time
@@ -37,6 +38,8 @@ compare() {
     # The bytes of a file are told where the items are its rows, of which there are 200,000.
     [ -z "$bytes" ] || awk -v bytes="$bytes" -v proved="$best_proved" \
         'BEGIN { printf "%.1f bytes a row, proved %.0f MB/s\n", bytes / 200000, bytes / 200000 * 1000000 / proved }'
+    # The proved side of `bounds` tells the bytes of a bound.
+    [ "$what" != bounds ] || echo "$size bytes a bound"
     last=$best_proved
 }
 
@@ -47,6 +50,10 @@ records)
     done ;;
 table)
     for name in table-read-2 table-read-8 table-text-2 table-text-8; do
+        compare "$name"
+    done ;;
+bounds)
+    for name in bounds-speed bounds-swing broken-speed broken-swing; do
         compare "$name"
     done ;;
 blocked)

@@ -6,15 +6,16 @@
 mod cutter;
 mod number;
 mod number_text;
+mod rows;
 
 use cutter::{Cutter, Fault, Fields};
 use number::{Extra, NumFault, scaled, units};
 use number_text::push_text_of;
+use rows::{Few, Header, Reading, Row, Table};
 use std::time::Instant;
 
 const ROWS: u32 = 200_000;
 const MOST_READINGS: usize = 400_000;
-const INLINE: usize = 4;
 const DECIMALS: u32 = 2;
 const SEP: u8 = b',';
 
@@ -33,46 +34,6 @@ enum Cause {
     Cut(Fault),
 }
 
-#[derive(Clone, Copy, Default)]
-struct Reading {
-    col: u32,
-    value: i64,
-}
-
-/// A few values in place, and more of them in a vector.
-enum Few<T> {
-    Inline(u32, [T; INLINE]),
-    Heap(Vec<T>),
-}
-
-impl<T: Copy + Default> Few<T> {
-    fn new() -> Few<T> {
-        Few::Inline(0, [T::default(); INLINE])
-    }
-
-    fn push(&mut self, value: T) {
-        match self {
-            Few::Inline(len, values) if (*len as usize) < INLINE => {
-                values[*len as usize] = value;
-                *len += 1;
-            }
-            Few::Inline(_, values) => {
-                let mut all = values.to_vec();
-                all.push(value);
-                *self = Few::Heap(all);
-            }
-            Few::Heap(values) => values.push(value),
-        }
-    }
-
-    fn as_slice(&self) -> &[T] {
-        match self {
-            Few::Inline(len, values) => &values[..*len as usize],
-            Few::Heap(values) => values,
-        }
-    }
-}
-
 impl Fields {
     fn width(&self) -> u32 {
         self.ends.len() as u32
@@ -82,36 +43,6 @@ impl Fields {
         let from = if i == 0 { 0 } else { self.ends[i - 1] as usize };
         &self.bytes[from..self.ends[i] as usize]
     }
-}
-
-struct Header {
-    fields: Fields,
-    time_col: u32,
-    from_left: Vec<u32>,
-}
-
-#[allow(dead_code)]
-struct Row {
-    fields: Fields,
-    ticks: i64,
-    time_col: u32,
-    readings: Few<Reading>,
-    missing: Few<u32>,
-}
-
-#[allow(dead_code)]
-#[derive(Clone, Copy)]
-struct Place {
-    row: u32,
-    col: u32,
-}
-
-struct Table {
-    header: Header,
-    rows: Vec<Row>,
-    places: Vec<Place>,
-    values: Vec<i64>,
-    starts: Vec<u32>,
 }
 
 fn is_blank(byte: u8) -> bool {
@@ -135,7 +66,7 @@ fn trimmed(mut text: &[u8]) -> &[u8] {
 }
 
 fn read_header(fields: Fields, sensors: &[&[u8]]) -> Result<Header, Cause> {
-    let mut from_left = Vec::new();
+    let mut sensor_cols = Vec::new();
     for sensor in sensors {
         let mut found = 0;
         for i in 1..fields.width() {
@@ -149,11 +80,12 @@ fn read_header(fields: Fields, sensors: &[&[u8]]) -> Result<Header, Cause> {
         if found == 0 {
             return Err(Cause::NoSuchSensor);
         }
-        from_left.push(found);
+        sensor_cols.push(found);
     }
+    let mut from_left = sensor_cols.clone();
     from_left.sort_unstable();
     from_left.dedup();
-    Ok(Header { fields, time_col: 1, from_left })
+    Ok(Header { fields, time_col: 1, sensor_cols, from_left })
 }
 
 fn ticks(field: &[u8]) -> Result<i64, Cause> {
@@ -192,18 +124,6 @@ fn read_row(
         return Err(Cause::TooManyReadings);
     }
     Ok(row)
-}
-
-impl Table {
-    fn push(&mut self, row: Row) {
-        let number = self.rows.len() as u32 + 1;
-        self.starts.push(self.values.len() as u32);
-        for reading in row.readings.as_slice() {
-            self.places.push(Place { row: number, col: reading.col });
-            self.values.push(reading.value);
-        }
-        self.rows.push(row);
-    }
 }
 
 fn read_table(bytes: &[u8], sensors: &[&[u8]]) -> Result<Table, Cause> {

@@ -1,6 +1,7 @@
 //! Measures proved functions, for `bench/run.sh`. The first word names what is measured.
 #![tactic(auto)]
 
+mod bounds;
 mod chain;
 mod records;
 mod settled;
@@ -10,6 +11,7 @@ mod texts;
 mod ticks;
 mod units;
 
+use bounds::Task;
 use records::Form;
 use std::rt::Runtime;
 use std::{env, io};
@@ -19,6 +21,10 @@ fn main(rt: HostRuntime) -> io::Result<()> {
     for word in env::args(&rt)?.skip(1) {
         match word.as_str() {
             "blocked" => settled::measure(&rt, true)?,
+            "bounds-speed" => bounds::measure(&rt, Task::Make, false)?,
+            "bounds-swing" => bounds::measure(&rt, Task::Make, true)?,
+            "broken-speed" => bounds::measure(&rt, Task::Test, false)?,
+            "broken-swing" => bounds::measure(&rt, Task::Test, true)?,
             "records" => records::measure(&rt, Form::Plain, false)?,
             "records-quoted" => records::measure(&rt, Form::Quoted, false)?,
             "records-crlf" => records::measure(&rt, Form::CrLf, false)?,

@@ -86,7 +86,7 @@ fn sum_of(table: &Table) -> u64 {
 }
 
 /// The readings file: a time in seconds, and hundredths in the other columns.
-fn file(alloc: Global, columns: u32) -> Result<Vec<u8>, AllocError> {
+pub fn file(alloc: Global, columns: u32) -> Result<Vec<u8>, AllocError> {
     let mut bytes = Vec::new(alloc);
     bytes.extend_from_slice(if columns == 2 {
         b"time,a\n".as_slice()
