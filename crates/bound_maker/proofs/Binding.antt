@@ -21,10 +21,11 @@ use Rattle.series_csv.specs.Readings.{places, TimesRise}
 use Rattle.bound_maker.specs.declared.reading.Reading.{Reading}
 use Rattle.bound_maker.specs.Bounds.{Ruled, all_bounds, both_sides, bounds_of_kind, bounds_of_pairs, bounds_of_rule, col_of, made_bounds, made_pairs, price_of_number, second_col_of, size_bounds, speed_bound, with_columns}
 use Rattle.bound_maker.specs.Laws.{MadeBindAll}
+use Rattle.bound_maker.specs.Named.{each_pair}
 use Rattle.bound_maker.specs.Readings.{all_pairs, before_later, neighbours, reading_in, readings_from, readings_of}
 use Rattle.bound_maker.specs.Windows.{StampsRise}
 use Rattle.bound_maker.proofs.Chains.{PairKeeps, all_keep, falls, floors}
-use Rattle.bound_maker.proofs.Parts.{IsOfNumber, all_ruled, each_pair, price_is}
+use Rattle.bound_maker.proofs.Parts.{IsOfNumber, all_ruled, price_is}
 use Rattle.bound_maker.proofs.Payments.{with_price}
 
 -- ---- readings of a column go up in time
@@ -79,9 +80,10 @@ module _ (rules : Rules) (places : List Place) (series : List ℤ) (number : ℕ
   pub keeps_pairs : price_of_number rules number ≡ 0 → (pairs : List (Reading × Reading)) → AllByRecursion (IsKept rules places series) (bounds_of_pairs (speed_bound number rule d col) pairs) → AllByRecursion SpeedKeeps pairs
   keeps_pairs free [] kept = tt
   keeps_pairs free (pair ∷ pairs) kept =
-      let parts = all_of_append (IsKept rules places series) (both_sides (speed_bound number rule d col pair.0.stamp pair.1.stamp)) (bounds_of_pairs (speed_bound number rule d col) pairs) kept in
-      (λ test. let both = from_both (IsKept rules places series) (is_within (pos 1) rule.window (elapsed pair.0.stamp pair.1.stamp)) (bound_on pair Up) (bound_on pair Down) parts.0 test in (both.0 free, both.1 free),
-      keeps_pairs free pairs parts.1)
+      let parts = all_of_append (IsKept rules places series) (both_sides (speed_bound number rule d col pair.0.stamp pair.1.stamp)) (bounds_of_pairs (speed_bound number rule d col) pairs) kept in (
+        λ test. let both = from_both (IsKept rules places series) (is_within (pos 1) rule.window (elapsed pair.0.stamp pair.1.stamp)) (bound_on pair Up) (bound_on pair Down) parts.0 test in (both.0 free, both.1 free),
+        keeps_pairs free pairs parts.1,
+      )
 
   pub kept_pairs : (pairs : List (Reading × Reading)) → AllByRecursion SpeedKeeps pairs → AllByRecursion (IsKept rules places series) (bounds_of_pairs (speed_bound number rule d col) pairs)
   kept_pairs [] keep = tt

@@ -47,9 +47,9 @@ pub falls : (rate : Rate) (d : ℕ) → 1 ≤ rate.per → AddUp (λ ticks. neg_
 falls rate d some = record {
   sum = λ p q.
       let ceils = ceils_add_up rate d p q (ceil_step rate d p) (ceil_step rate d q) (ceil_step rate d (p +ℤ q))
-          (ceil_of_floor rate d p _ (floor_of (opposite rate) d p _ _ some refl refl))
-          (ceil_of_floor rate d q _ (floor_of (opposite rate) d q _ _ some refl refl))
-          (ceil_of_floor rate d (p +ℤ q) _ (floor_of (opposite rate) d (p +ℤ q) _ _ some refl refl)) in
+      (ceil_of_floor rate d p _ (floor_of (opposite rate) d p _ _ some refl refl))
+      (ceil_of_floor rate d q _ (floor_of (opposite rate) d q _ _ some refl refl))
+      (ceil_of_floor rate d (p +ℤ q) _ (floor_of (opposite rate) d (p +ℤ q) _ _ some refl refl)) in
       turned (ceil_step rate d p) (ceil_step rate d q) (ceil_step rate d (p +ℤ q)) ceils;
 }
 
@@ -78,12 +78,13 @@ through window value up down ups downs x y z before after first second = λ test
     let b = second (within_from (pos 1) window q (omega (arith, ints, after)) (omega (arith, ints, before, within.high))) in
     let whole : (p +ℤ q) ≡ elapsed x.stamp z.stamp = omega (arith, ints) in
     let rise : (up p +ℤ up q) ≤ℤ up (elapsed x.stamp z.stamp) = subst (λ (t : ℤ). (up p +ℤ up q) ≤ℤ up t) whole (ups.sum p q) in
-    let fall : (down p +ℤ down q) ≤ℤ down (elapsed x.stamp z.stamp) = subst (λ (t : ℤ). (down p +ℤ down q) ≤ℤ down t) whole (downs.sum p q) in
-    (added (value x) (value y) (value z) (up p) (up q) (up (elapsed x.stamp z.stamp)) a.0 b.0 rise,
-    added (value z) (value y) (value x) (down q) (down p) (down (elapsed x.stamp z.stamp)) b.1 a.1 (turned_sum (down p) (down q) (down (elapsed x.stamp z.stamp)) fall))
+    let fall : (down p +ℤ down q) ≤ℤ down (elapsed x.stamp z.stamp) = subst (λ (t : ℤ). (down p +ℤ down q) ≤ℤ down t) whole (downs.sum p q) in (
+      added (value x) (value y) (value z) (up p) (up q) (up (elapsed x.stamp z.stamp)) a.0 b.0 rise,
+      added (value z) (value y) (value x) (down q) (down p) (down (elapsed x.stamp z.stamp)) b.1 a.1 (turned_sum (down p) (down q) (down (elapsed x.stamp z.stamp)) fall),
+    )
 
 -- what follows from two facts on each element
-joined : {A : Type 0} (P Q R : A → Type 0) → ((x : A) → P x → Q x → R x) → (xs : List A) → AllByRecursion P xs → AllByRecursion Q xs → AllByRecursion R xs
+pub joined : {A : Type 0} (P Q R : A → Type 0) → ((x : A) → P x → Q x → R x) → (xs : List A) → AllByRecursion P xs → AllByRecursion Q xs → AllByRecursion R xs
 joined P Q R both [] ps qs = tt
 joined P Q R both (x ∷ xs) ps qs = (both x ps.0 qs.0, joined P Q R both xs ps.1 qs.1)
 
@@ -95,11 +96,12 @@ PairKeeps window value up down pair = KeepsSteps window value up down pair.0 pai
 chain : (window : ℤ) (value : Reading → ℤ) (up down : ℤ → ℤ) → AddUp up → AddUp down → (x : Reading) (ys : List Reading) → StampsRise (x ∷ ys)
     → AllByRecursion (PairKeeps window value up down) (neighbours (x ∷ ys)) → AllByRecursion (KeepsSteps window value up down x) ys
 chain window value up down ups downs x [] rise near = tt
-chain window value up down ups downs x (y ∷ ys) rise near =
-    (near.0,
-    joined (KeepsSteps window value up down y) (λ (z : Reading). y.stamp.ticks <ℤ z.stamp.ticks) (KeepsSteps window value up down x)
-    (λ z keeps after. through window value up down ups downs x y z rise.0.0 after near.0 keeps) ys
-    (chain window value up down ups downs y ys rise.1 near.1) rise.1.0)
+chain window value up down ups downs x (y ∷ ys) rise near = (
+  near.0,
+  joined (KeepsSteps window value up down y) (λ (z : Reading). y.stamp.ticks <ℤ z.stamp.ticks) (KeepsSteps window value up down x)
+      (λ z keeps after. through window value up down ups downs x y z rise.0.0 after near.0 keeps) ys
+      (chain window value up down ups downs y ys rise.1 near.1) rise.1.0,
+)
 
 -- each two readings keep the steps
 pub all_keep : (window : ℤ) (value : Reading → ℤ) (up down : ℤ → ℤ) → AddUp up → AddUp down → (xs : List Reading) → StampsRise xs

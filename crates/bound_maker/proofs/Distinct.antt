@@ -22,9 +22,9 @@ use Rattle.series_csv.specs.Readings.{places}
 use Rattle.bound_maker.specs.declared.reading.Reading.{Reading}
 use Rattle.bound_maker.specs.Bounds.{Ruled, both_sides, bounds_in_rows, bounds_in_time, bounds_of_kind, bounds_of_pairs, bounds_of_rule, col_if_read, col_of, second_col_of, size_bounds, speed_bound, value_bounds, with_columns}
 use Rattle.bound_maker.specs.Laws.{NamesAreDistinct}
+use Rattle.bound_maker.specs.Named.{each_pair}
 use Rattle.bound_maker.specs.Readings.{all_pairs, before_later, reading_in, readings_from, readings_of}
 use Rattle.bound_maker.proofs.Named.{all_flat}
-use Rattle.bound_maker.proofs.Parts.{each_pair}
 
 -- ---- lists that are joined
 
@@ -58,7 +58,7 @@ grouped f key k (x ∷ xs) each distinct keys =
 abbrev pub names : List Bound → List BoundName
 names bounds = map (λ bound. bound.name) bounds
 
-map_flat : {A B C : Type 0} (g : B → C) (f : A → List B) (xs : List A) → map g (flat_map f xs) ≡ flat_map (λ x. map g (f x)) xs
+pub map_flat : {A B C : Type 0} (g : B → C) (f : A → List B) (xs : List A) → map g (flat_map f xs) ≡ flat_map (λ x. map g (f x)) xs
 map_flat g f [] = refl
 map_flat g f (x ∷ xs) = map-append g (f x) (flat_map f xs) ∙ ap (λ ys. map g (f x) ++ ys) (map_flat g f xs)
 
@@ -72,7 +72,7 @@ two_sides false up down is_up is_down = tt
 
 -- ---- the pairs of readings
 
-abbrev row_of : Reading → ℕ
+abbrev pub row_of : Reading → ℕ
 row_of reading = reading.stamp.row
 
 abbrev rows_of : Reading × Reading → ℕ × ℕ
@@ -80,12 +80,13 @@ rows_of pair = (pair.0.stamp.row, pair.1.stamp.row)
 
 paired : (x : Reading) (ys : List Reading) → Distinct (map row_of ys) → Distinct (map rows_of (map (λ (y : Reading). (x, y)) ys))
 paired x [] distinct = tt
-paired x (y ∷ ys) distinct =
-    (all_map (λ (k : ℕ × ℕ). (row_of x, row_of y) ≢ k) rows_of (map (λ (z : Reading). (x, z)) ys)
-    (all_map (λ (pair : Reading × Reading). (row_of x, row_of y) ≢ rows_of pair) (λ (z : Reading). (x, z)) ys
-    (all_weaker (λ (z : Reading). row_of y ≢ row_of z) (λ (z : Reading). (row_of x, row_of y) ≢ (row_of x, row_of z)) (λ z other same. other (ap (λ (k : ℕ × ℕ). k.1) same)) ys
-    (all_from_map (λ (n : ℕ). row_of y ≢ n) row_of ys distinct.0))),
-    paired x ys distinct.1)
+paired x (y ∷ ys) distinct = (
+  all_map (λ (k : ℕ × ℕ). (row_of x, row_of y) ≢ k) rows_of (map (λ (z : Reading). (x, z)) ys)
+      (all_map (λ (pair : Reading × Reading). (row_of x, row_of y) ≢ rows_of pair) (λ (z : Reading). (x, z)) ys
+      (all_weaker (λ (z : Reading). row_of y ≢ row_of z) (λ (z : Reading). (row_of x, row_of y) ≢ (row_of x, row_of z)) (λ z other same. other (ap (λ (k : ℕ × ℕ). k.1) same)) ys
+      (all_from_map (λ (n : ℕ). row_of y ≢ n) row_of ys distinct.0))),
+  paired x ys distinct.1,
+)
 
 -- a fact that does not speak of the elements
 each_holds : {A : Type 0} (P : Type 0) → P → (xs : List A) → AllByRecursion (λ (x : A). P) xs
@@ -93,7 +94,7 @@ each_holds P p [] = tt
 each_holds P p (x ∷ xs) = (p, each_holds P p xs)
 
 -- the first of each pair is one of the readings
-firsts : (P : Reading → Type 0) (xs : List Reading) → AllByRecursion P xs → AllByRecursion (λ (pair : Reading × Reading). P pair.0) (all_pairs xs)
+pub firsts : (P : Reading → Type 0) (xs : List Reading) → AllByRecursion P xs → AllByRecursion (λ (pair : Reading × Reading). P pair.0) (all_pairs xs)
 firsts P [] all = tt
 firsts P (x ∷ xs) all =
     all_append (λ (pair : Reading × Reading). P pair.0) (map (λ (y : Reading). (x, y)) xs) (all_pairs xs)
@@ -118,7 +119,7 @@ stand_from : (number row_number : ℕ) (row : RowView) (o : Option ℤ) (later :
 stand_from number row_number row (Some value) later here rest = (here, rest)
 stand_from number row_number row None later here rest = rest
 
-rows_from : (least number col : ℕ) (rows : List RowView) → least ≤ number → AllByRecursion (λ (y : Reading). least ≤ row_of y) (readings_from number col rows)
+pub rows_from : (least number col : ℕ) (rows : List RowView) → least ≤ number → AllByRecursion (λ (y : Reading). least ≤ row_of y) (readings_from number col rows)
 rows_from least number col [] h = tt
 rows_from least number col (row ∷ rows) h =
     stand_from least number row (reading_in col row) (readings_from (suc number) col rows) h (rows_from least (suc number) col rows (omega (arith, h)))
@@ -144,13 +145,13 @@ pairs_names bound pairs each apart rows =
     (grouped (λ (pair : Reading × Reading). names (both_sides (bound pair.0.stamp pair.1.stamp))) (λ (name : BoundName). (name.from_row, name.to_row)) rows_of pairs each apart rows)
 
 -- what holds of the names of both
-two_named : (P : BoundName → Type 0) (t : Bool) (up down : Bound) → P up.name → P down.name → AllByRecursion P (names (option_to_list (cond t (Some up) None) ++ option_to_list (cond t (Some down) None)))
+pub two_named : (P : BoundName → Type 0) (t : Bool) (up down : Bound) → P up.name → P down.name → AllByRecursion P (names (option_to_list (cond t (Some up) None) ++ option_to_list (cond t (Some down) None)))
 two_named P true up down first second = (first, (second, tt))
 two_named P false up down first second = tt
 
 -- ---- bounds of one reading
 
-value_named : (P : BoundName → Type 0) (t : Bool) (up down : Bound) → P up.name → P down.name → AllByRecursion P (names (cond t (up ∷ down ∷ []) []))
+pub value_named : (P : BoundName → Type 0) (t : Bool) (up down : Bound) → P up.name → P down.name → AllByRecursion P (names (cond t (up ∷ down ∷ []) []))
 value_named P true up down first second = (first, (second, tt))
 value_named P false up down first second = tt
 
@@ -228,7 +229,7 @@ values_rule number col from to least most readings =
     (all_flat (λ (name : BoundName). name.rule ≡ number) (λ (reading : Reading). names (f reading)) readings
     (λ reading. value_named (λ (name : BoundName). name.rule ≡ number) (is_within from to reading.stamp.ticks) _ _ refl refl))
 
-kind_rule : (d : ℕ) (rows : List RowView) (number col second : ℕ) (rule : Rule) → AllByRecursion (λ (name : BoundName). name.rule ≡ number) (names (bounds_of_kind each_pair d rows number col second rule))
+pub kind_rule : (d : ℕ) (rows : List RowView) (number col second : ℕ) (rule : Rule) → AllByRecursion (λ (name : BoundName). name.rule ≡ number) (names (bounds_of_kind each_pair d rows number col second rule))
 kind_rule d rows number col second (speed rule) =
     pairs_rule number (speed_bound number rule d col) (all_pairs (readings_of col rows)) (λ pair. two_named (λ (name : BoundName). name.rule ≡ number) (is_within (pos 1) rule.window (elapsed pair.0.stamp pair.1.stamp)) _ _ refl refl)
 kind_rule d rows number col second (swing rule) =
@@ -263,17 +264,18 @@ kind_distinct d rows number col second (between rule) = rows_names number 1 col 
 
 -- ---- all rules
 
-numbers_from : (least n : ℕ) (rules : List Rule) (cols : List ℕ) → least ≤ n → AllByRecursion (λ (r : Ruled). least ≤ r.number) (with_columns n rules cols)
+pub numbers_from : (least n : ℕ) (rules : List Rule) (cols : List ℕ) → least ≤ n → AllByRecursion (λ (r : Ruled). least ≤ r.number) (with_columns n rules cols)
 numbers_from least n [] cols h = tt
 numbers_from least n (rule ∷ rules) cols h = (h, numbers_from least (suc n) rules (drop (length (sensor_names rule)) cols) (omega (arith, h)))
 
 numbers_distinct : (n : ℕ) (rules : List Rule) (cols : List ℕ) → Distinct (map (λ (r : Ruled). r.number) (with_columns n rules cols))
 numbers_distinct n [] cols = tt
 numbers_distinct n (rule ∷ rules) cols =
-    let later = with_columns (suc n) rules (drop (length (sensor_names rule)) cols) in
-    (all_map (λ (m : ℕ). n ≢ m) (λ (r : Ruled). r.number) later
-    (all_weaker (λ (r : Ruled). suc n ≤ r.number) (λ (r : Ruled). n ≢ r.number) (λ r high same. absurd (omega (arith, high, same))) later (numbers_from (suc n) (suc n) rules (drop (length (sensor_names rule)) cols) (omega arith))),
-    numbers_distinct (suc n) rules (drop (length (sensor_names rule)) cols))
+    let later = with_columns (suc n) rules (drop (length (sensor_names rule)) cols) in (
+      all_map (λ (m : ℕ). n ≢ m) (λ (r : Ruled). r.number) later
+          (all_weaker (λ (r : Ruled). suc n ≤ r.number) (λ (r : Ruled). n ≢ r.number) (λ r high same. absurd (omega (arith, high, same))) later (numbers_from (suc n) (suc n) rules (drop (length (sensor_names rule)) cols) (omega arith))),
+      numbers_distinct (suc n) rules (drop (length (sensor_names rule)) cols),
+    )
 
 sizes_distinct : (ps : List Place) → Distinct ps → Distinct (names (size_bounds ps))
 sizes_distinct ps distinct =
@@ -284,7 +286,7 @@ sizes_distinct ps distinct =
     (λ place. (((λ same. up_is_down (ap (λ (name : BoundName). name.side) same)), tt), (tt, tt)))
     (subst (λ (qs : List Place). Distinct qs) (sym (map-id ps)) distinct))
 
-sizes_rule : (ps : List Place) → AllByRecursion (λ (name : BoundName). name.rule ≡ 0) (names (size_bounds ps))
+pub sizes_rule : (ps : List Place) → AllByRecursion (λ (name : BoundName). name.rule ≡ 0) (names (size_bounds ps))
 sizes_rule [] = tt
 sizes_rule (place ∷ ps) = (refl, (refl, sizes_rule ps))
 
@@ -298,8 +300,8 @@ all_names_distinct rules table distinct =
     let flat : names others ≡ flat_map f ruled = map_flat (λ (b : Bound). b.name) (bounds_of_rule each_pair d table.rows) ruled in
     let each = λ (r : Ruled). kind_rule d table.rows r.number (col_of r) (second_col_of r) r.rule in
     let some : AllByRecursion (λ (m : ℕ). 0 ≢ m) (map (λ (r : Ruled). r.number) ruled) =
-        all_map (λ (m : ℕ). 0 ≢ m) (λ (r : Ruled). r.number) ruled
-        (all_weaker (λ (r : Ruled). 1 ≤ r.number) (λ (r : Ruled). 0 ≢ r.number) (λ r high same. absurd (omega (arith, high, same))) ruled (numbers_from 1 1 (rules_in_order rules) table.header.sensor_cols (omega arith))) in
+    all_map (λ (m : ℕ). 0 ≢ m) (λ (r : Ruled). r.number) ruled
+    (all_weaker (λ (r : Ruled). 1 ≤ r.number) (λ (r : Ruled). 0 ≢ r.number) (λ r high same. absurd (omega (arith, high, same))) ruled (numbers_from 1 1 (rules_in_order rules) table.header.sensor_cols (omega arith))) in
     subst (λ ns. Distinct ns) (sym (map-append (λ (b : Bound). b.name) sizes others))
     (distinct_append (names sizes) (names others) (sizes_distinct (places table) distinct)
     (subst (λ ns. Distinct ns) (sym flat)

@@ -31,9 +31,9 @@ pub speed_named : (number : ℕ) (rule : SpeedRule) (d col : ℕ) (pairs : List 
 speed_named number rule d col pairs =
     all_flat (HasNumber number) (λ pair. both_sides (speed_bound number rule d col pair.0.stamp pair.1.stamp)) pairs
     (λ pair.
-        let from = pair.0.stamp in
-        let to = pair.1.stamp in
-        let within = is_within (pos 1) rule.window (elapsed from to) in
-        all_sides (HasNumber number) (speed_bound number rule d col from to)
-        (all_if (HasNumber number) within (rise_bound number (place_in col from) (place_in col to) (rate_limit rule.min rule.max d (elapsed from to) Up) Up) refl)
-        (all_if (HasNumber number) within (rise_bound number (place_in col from) (place_in col to) (rate_limit rule.min rule.max d (elapsed from to) Down) Down) refl))
+    let from = pair.0.stamp in
+    let to = pair.1.stamp in
+    let within = is_within (pos 1) rule.window (elapsed from to) in
+    all_sides (HasNumber number) (speed_bound number rule d col from to)
+    (all_if (HasNumber number) within (rise_bound number (place_in col from) (place_in col to) (rate_limit rule.min rule.max d (elapsed from to) Up) Up) refl)
+    (all_if (HasNumber number) within (rise_bound number (place_in col from) (place_in col to) (rate_limit rule.min rule.max d (elapsed from to) Down) Down) refl))

@@ -20,12 +20,10 @@ use Rattle.series_csv.specs.Readings.{places}
 use Rattle.bound_maker.specs.declared.reading.Reading.{Reading}
 use Rattle.bound_maker.specs.Bounds.{Ruled, all_bounds, both_sides, bounds_of_kind, bounds_of_pairs, bounds_of_rule, col_of, made_bounds, made_pairs, price_if, price_of_number, priced, second_col_of, size_bounds, speed_bound, with_columns}
 use Rattle.bound_maker.specs.Laws.{AreAPart}
+use Rattle.bound_maker.specs.Named.{each_pair}
 use Rattle.bound_maker.specs.Readings.{all_pairs, neighbours, readings_of}
 use Rattle.bound_maker.proofs.Named.{HasNumber, speed_named}
 use Rattle.bound_maker.proofs.Payments.{with_price}
-
-abbrev pub each_pair : SpeedRule → List Reading → List (Reading × Reading)
-each_pair rule readings = all_pairs readings
 
 -- ---- a part
 
@@ -73,10 +71,11 @@ IsOfNumber rules ruled = rule_of rules ruled.number ≡ Some ruled.rule
 pub with_columns_ruled : (rules : Rules) (k : ℕ) (rest : List Rule) (cols : List ℕ) → ((j : ℕ) → slice_get (rules_in_order rules) (k + j) ≡ slice_get rest j) → AllByRecursion (IsOfNumber rules) (with_columns (suc k) rest cols)
 with_columns_ruled rules k [] cols stand = tt
 with_columns_ruled rules k (rule ∷ rest) cols stand =
-    let at : k ≡ k + 0 = omega arith in
-    (ap (slice_get (rules_in_order rules)) at ∙ stand 0,
-    with_columns_ruled rules (suc k) rest (drop (length (sensor_names rule)) cols)
-    (λ j. let next : suc k + j ≡ k + suc j = omega arith in ap (slice_get (rules_in_order rules)) next ∙ stand (suc j)))
+    let at : k ≡ k + 0 = omega arith in (
+      ap (slice_get (rules_in_order rules)) at ∙ stand 0,
+      with_columns_ruled rules (suc k) rest (drop (length (sensor_names rule)) cols)
+          (λ j. let next : suc k + j ≡ k + suc j = omega arith in ap (slice_get (rules_in_order rules)) next ∙ stand (suc j)),
+    )
 
 pub all_ruled : (rules : Rules) (cols : List ℕ) → AllByRecursion (IsOfNumber rules) (with_columns 1 (rules_in_order rules) cols)
 all_ruled rules cols = with_columns_ruled rules 0 (rules_in_order rules) cols (λ j. let same : 0 + j ≡ j = omega arith in ap (slice_get (rules_in_order rules)) same)
@@ -116,7 +115,7 @@ speed_dear rules number rule d col readings false test price = refl
 speed_dear rules number rule d col readings true test price =
     let zero_price : price_of_number rules number ≡ 0 = price ∙ eqb-true rule.price 0 test in
     let free = λ (pairs : List (Reading × Reading)). none_dear rules (bounds_of_pairs (speed_bound number rule d col) pairs)
-        (all_weaker (HasNumber number) (IsFree rules) (λ bound is. ap (price_of_number rules) is ∙ zero_price) (bounds_of_pairs (speed_bound number rule d col) pairs) (speed_named number rule d col pairs)) in
+    (all_weaker (HasNumber number) (IsFree rules) (λ bound is. ap (price_of_number rules) is ∙ zero_price) (bounds_of_pairs (speed_bound number rule d col) pairs) (speed_named number rule d col pairs)) in
     free (neighbours readings) ∙ sym (free (all_pairs readings))
 
 pub kind_dear : (rules : Rules) (d : ℕ) (rows : List RowView) (number col second : ℕ) (rule : Rule) → rule_of rules number ≡ Some rule

@@ -30,9 +30,10 @@ still_ready window x [] old new is_window rise start end new_start new_end = tt
 still_ready window x (y ∷ ys) old new is_window rise start end new_start new_end =
     let later : x.stamp.ticks ≤ℤ y.stamp.ticks = omega (arith, ints, rise.0.0) in
     let low = first_is_before window.least x (y ∷ ys) is_window.least in
-    let high = first_is_before (window.most +ℤ pos 1) x (y ∷ ys) (omega (arith, ints, is_window.least, is_window.ordered)) in
-    (omega (arith, low, start, new_start, earlier_counts x.stamp.ticks y.stamp.ticks window.least (y ∷ ys) later),
-    omega (arith, high, end, new_end, earlier_counts x.stamp.ticks y.stamp.ticks (window.most +ℤ pos 1) (y ∷ ys) later))
+    let high = first_is_before (window.most +ℤ pos 1) x (y ∷ ys) (omega (arith, ints, is_window.least, is_window.ordered)) in (
+      omega (arith, low, start, new_start, earlier_counts x.stamp.ticks y.stamp.ticks window.least (y ∷ ys) later),
+      omega (arith, high, end, new_end, earlier_counts x.stamp.ticks y.stamp.ticks (window.most +ℤ pos 1) (y ∷ ys) later),
+    )
 
 flat_mapped : {A B C : Type 0} (f : B → List C) (g : A → B) (xs : List A) → flat_map f (map g xs) ≡ flat_map (λ x. f (g x)) xs
 flat_mapped f g [] = refl

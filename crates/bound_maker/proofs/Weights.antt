@@ -13,6 +13,7 @@ use Rattle.rule_file.specs.declared.rules.WeightRule.{WeightRule}
 use Rattle.pair_bounds.specs.Pairs.{is_within}
 use Rattle.bound_maker.specs.Bounds.{Ruled, col_of, with_columns}
 use Rattle.bound_maker.specs.Costs.{last_or_one, weight_by, weight_of}
+use Rattle.bound_maker.specs.Ruled.{named}
 use Rattle.bound_maker.specs.Weighed.{covering, last_or}
 
 -- the weight so far, with one rule more
@@ -24,7 +25,7 @@ last_more place cols rules col ticks i other next d h is =
     let rule = get_or rules i d in
     let test = (get_or cols (place + i) 0 == col) && is_within rule.from rule.to ticks in
     let step : (b : Bool) → last_or other (cond b (rule.weight ∷ covering (suc (place + i)) cols (drop (i + 1) rules) col ticks) (covering (suc (place + i)) cols (drop (i + 1) rules) col ticks)) ≡ last_or (cond b rule.weight other) (covering (suc (place + i)) cols (drop (i + 1) rules) col ticks) =
-        λ b. elim b as (λ b. last_or other (cond b (rule.weight ∷ covering (suc (place + i)) cols (drop (i + 1) rules) col ticks) (covering (suc (place + i)) cols (drop (i + 1) rules) col ticks)) ≡ last_or (cond b rule.weight other) (covering (suc (place + i)) cols (drop (i + 1) rules) col ticks)) [ true ↦ refl | false ↦ refl ] in
+    λ b. elim b as (λ b. last_or other (cond b (rule.weight ∷ covering (suc (place + i)) cols (drop (i + 1) rules) col ticks) (covering (suc (place + i)) cols (drop (i + 1) rules) col ticks)) ≡ last_or (cond b rule.weight other) (covering (suc (place + i)) cols (drop (i + 1) rules) col ticks)) [ true ↦ refl | false ↦ refl ] in
     ap (λ rs. last_or other (covering (place + i) cols rs col ticks)) (drop_more rules i d h)
     ∙ (step test
     ∙ (ap (λ n. last_or n (covering (suc (place + i)) cols (drop (i + 1) rules) col ticks)) (sym is)
@@ -41,11 +42,6 @@ last_is [] = refl
 last_is (n ∷ ns) = last_same n ns
 
 -- ---- rules with their columns, in lists that are joined
-
--- how many sensors rules name
-abbrev pub named : List Rule → ℕ
-named [] = 0
-named (rule ∷ rules) = length (sensor_names rule) + named rules
 
 pub with_columns-append : (n : ℕ) (xs ys : List Rule) (cols : List ℕ) → with_columns n (xs ++ ys) cols ≡ with_columns n xs cols ++ with_columns (n + length xs) ys (drop (named xs) cols)
 with_columns-append n [] ys cols = ap (λ m. with_columns m ys cols) (sym (add-zero n))
@@ -79,7 +75,7 @@ choose : (b : Bool) (w : ℕ) (rest other : List ℕ) → rest ≡ other → con
 choose true w rest other same = ap (λ ns. w ∷ ns) same
 choose false w rest other same = same
 
-first_col : (place : ℕ) (cols : List ℕ) → get_or (take 1 (drop place cols)) 0 0 ≡ get_or cols place 0
+pub first_col : (place : ℕ) (cols : List ℕ) → get_or (take 1 (drop place cols)) 0 0 ≡ get_or cols place 0
 first_col zero [] = refl
 first_col zero (c ∷ cols) = refl
 first_col (suc place) [] = refl
@@ -155,14 +151,21 @@ weight_is rules cols col ticks =
     let nothing : g (with_columns 1 first cols) ≡ [] = no_weights 1 first cols col ticks (all_weaker IsPlain HasNoWeight (λ rule h. h.1) first plain) in
     let last : g (with_columns (1 + length (first ++ ws)) bs after) ≡ [] = no_weights (1 + length (first ++ ws)) bs after col ticks (no_between rules.betweens) in
     let middle : g (with_columns (1 + length first) ws (drop (named first) cols)) ≡ covering (count_before kind.Weight rules) cols rules.weights col ticks =
-        covering_is (1 + length first) (named first) rules.weights cols col ticks ∙ ap (λ p. covering p cols rules.weights col ticks) place in
+    covering_is (1 + length first) (named first) rules.weights cols col ticks ∙ ap (λ p. covering p cols rules.weights col ticks) place in
     let split : g (with_columns 1 (first ++ ws ++ bs) cols) ≡ covering (count_before kind.Weight rules) cols rules.weights col ticks =
-        ap g (with_columns-append 1 (first ++ ws) bs cols)
-        ∙ (filter_map-append (by_rule col ticks) (with_columns 1 (first ++ ws) cols) (with_columns (1 + length (first ++ ws)) bs after)
-        ∙ (ap (λ ns. g (with_columns 1 (first ++ ws) cols) ++ ns) last
-        ∙ (append-nil (g (with_columns 1 (first ++ ws) cols))
-        ∙ (ap g (with_columns-append 1 first ws cols)
-        ∙ (filter_map-append (by_rule col ticks) (with_columns 1 first cols) (with_columns (1 + length first) ws (drop (named first) cols))
-        ∙ (ap (λ ns. ns ++ g (with_columns (1 + length first) ws (drop (named first) cols))) nothing
-        ∙ middle)))))) in
+    ap g (with_columns-append 1 (first ++ ws) bs cols)
+    ∙ (filter_map-append (by_rule col ticks) (with_columns 1 (first ++ ws) cols) (with_columns (1 + length (first ++ ws)) bs after)
+    ∙ (ap (λ ns. g (with_columns 1 (first ++ ws) cols) ++ ns) last
+    ∙ (append-nil (g (with_columns 1 (first ++ ws) cols))
+    ∙ (ap g (with_columns-append 1 first ws cols)
+    ∙ (filter_map-append (by_rule col ticks) (with_columns 1 first cols) (with_columns (1 + length first) ws (drop (named first) cols))
+    ∙ (ap (λ ns. ns ++ g (with_columns (1 + length first) ws (drop (named first) cols))) nothing
+    ∙ middle)))))) in
     last_is (g (with_columns 1 (rules_in_order rules) cols)) ∙ ap (last_or 1) split
+
+-- as the code finds it
+pub weight_found : (rules : Rules) (cols : List ℕ) (col place : ℕ) (ticks t : ℤ) (ws : List WeightRule) (found : ℕ) → found ≡ last_or 1 (covering place cols ws col t) → place ≡ count_before kind.Weight rules → ws ≡ rules.weights → t ≡ ticks
+    → found ≡ weight_of (with_columns 1 (rules_in_order rules) cols) col ticks
+weight_found rules cols col place ticks t ws found is at are time =
+    is ∙ (ap (λ (p : ℕ). last_or 1 (covering p cols ws col t)) at ∙ (ap (λ (xs : List WeightRule). last_or 1 (covering (count_before kind.Weight rules) cols xs col t)) are
+    ∙ (ap (λ (z : ℤ). last_or 1 (covering (count_before kind.Weight rules) cols rules.weights col z)) time ∙ sym (weight_is rules cols col ticks))))

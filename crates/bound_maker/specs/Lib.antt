@@ -3,6 +3,7 @@ pub mod Broken
 pub mod Columns
 pub mod Costs
 pub mod Laws
+pub mod Named
 pub mod Pairs
 pub mod Readings
 pub mod Ruled

@@ -1,11 +1,12 @@
 //! The readings of all sensor columns, each column gathered once.
-ghost use Rattle.std.specs.Prelude.{◌≡◌, Contains, IfOk, IfSome};
+ghost use Rattle.std.specs.Prelude.{◌≡◌, IfOk, IfSome};
 ghost use Rattle.std.specs.List.{AllByRecursion};
 ghost use Rattle.bound_maker.specs.Columns.{IsColumn};
+ghost use Rattle.bound_maker.specs.Readings.{readings_of};
 
-use crate::reading::{Reading, gather};
+use crate::reading::{Reading, gather, rows_of};
 use sequence::Sequence;
-use series_csv::Table;
+use series_csv::{Row, Table};
 use std::alloc::{AllocError, Global};
 
 /// The readings of a column.
@@ -21,22 +22,27 @@ pub(crate) struct Column {
 pub(crate) fn columns_of(alloc: Global, table: &Table) -> Result<Vec<Column>, AllocError>
     ensures { IfOk result (λ columns. AllByRecursion (IsColumn table.now.rows) columns.items) }
 {
-    let rows = table.all_rows();
+    let rows = rows_of(table);
     let mut columns = Vec::new(alloc);
     for col in table.header().sensor_columns() {
         let readings = gather(alloc, rows, *col)?;
-        columns.push(Column { col: *col, readings })?;
+        columns.push(Column {
+            col: *col,
+            readings,
+        })?;
     }
     Ok(columns)
 }
 
-/// The column of a number, if it is among these.
-pub(crate) fn column_at(columns: &[Column], col: u32) -> Option<&Column>
-    ensures { IfSome result (λ column. (column.now.col ≡ col) × Contains columns.now column.now) }
+/// The readings in a column of these rows, if the column is among those gathered.
+pub(crate) fn column_at<'a>(columns: &'a [Column], rows: &[Row], col: u32) -> Option<&'a [Reading]>
+    requires { AllByRecursion (IsColumn rows.now) columns.now }
+    ensures { IfSome result (λ readings. readings.now ≡ readings_of col rows.now) }
 {
+    let _rows = rows;
     for column in columns {
         if column.col == col {
-            return Some(column);
+            return Some(column.readings.as_slice());
         }
     }
     None

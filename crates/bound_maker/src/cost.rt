@@ -1,5 +1,5 @@
 //! Prices, and what a series pays for the bounds that it breaks.
-ghost use Rattle.std.specs.Prelude.{◌≡◌, ◌≤◌, ◌*◌, ◌^◌, ◌↔◌, ◌-ℤ◌, pos, length, get_or, map, sum, None};
+ghost use Rattle.std.specs.Prelude.{◌≡◌, ◌≤◌, ◌*◌, ◌^◌, ◌↔◌, ◌-ℤ◌, pos, unsigned_abs, length, get_or, map, sum, None};
 ghost use Rattle.screen_model.specs.Cost.{above_zero, cost, paid, payment};
 ghost use Rattle.screen_model.specs.Obeys.{Obeys, rise};
 ghost use Rattle.screen_model.specs.Series.{reading_at, value_at};
@@ -29,10 +29,7 @@ pub fn price_of(rules: &Rules, rule: u32) -> u32
 fn value_of(series: &Series, i: u32) -> i64
     ensures { result ≡ get_or series.now i (pos 0) }
 {
-    match series.get(i as usize) {
-        Some(value) => *value,
-        None => 0,
-    }
+    series.get(i as usize).copied().unwrap_or(0)
 }
 
 /// The value of a series at the place of a reading, and 0 where no reading is there.
@@ -57,13 +54,37 @@ fn value_at(table: &Table, series: &Series, end: End) -> i64
     }
 }
 
+/// How far one number lies above another.
+fn difference(above: i64, below: i64) -> i128
+    ensures value { result ≡ above -ℤ below }
+    ensures small { unsigned_abs result ≤ 2 ^ 64 }
+{
+    i128::from(above) - i128::from(below)
+}
+
+/// How far a rise lies above a limit, and below 0 where it lies below.
+fn above_limit(rise: i128, limit: i64) -> i128
+    requires { unsigned_abs rise ≤ 2 ^ 64 }
+    ensures value { result ≡ rise -ℤ limit }
+    ensures small { unsigned_abs result ≤ 2 ^ 66 }
+{
+    rise - i128::from(limit)
+}
+
+/// A number above 0, and 0 in place of others.
+fn positive_part(number: i128) -> u128
+    ensures value { result ≡ above_zero number }
+    ensures small { result ≤ unsigned_abs number }
+{
+    if number > 0 { number.unsigned_abs() } else { 0 }
+}
+
 /// How far a rise lies above a limit.
 fn excess(first: i64, second: i64, limit: i64) -> u128
     ensures value { result ≡ above_zero ((second -ℤ first) -ℤ limit) }
     ensures small { result ≤ 2 ^ 66 }
 {
-    let above = i128::from(second) - i128::from(first) - i128::from(limit);
-    if above > 0 { above.unsigned_abs() } else { 0 }
+    positive_part(above_limit(difference(second, first), limit))
 }
 
 /// How far a series is above what a bound allows.

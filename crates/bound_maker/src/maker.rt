@@ -2,14 +2,15 @@
 ghost use Rattle.std.specs.Prelude.{◌≡◌, ◌≢◌, ℕ, ◌+◌, ◌<◌, ◌≤◌, ◌++◌, min, length, IfOk, IfErr, OnOk};
 ghost use Rattle.std.specs.List.{AllByRecursion, flat_map};
 ghost use Rattle.rule_file.specs.Numbers.{rules_in_order, seen_rule};
-ghost use Rattle.bound_maker.specs.Bounds.{bounds_of_kind, bounds_of_rule, made_bounds, made_pairs, with_columns};
+ghost use Rattle.series_csv.specs.Readings.{places};
+ghost use Rattle.bound_maker.specs.Bounds.{bounds_of_kind, bounds_of_rule, made_bounds, made_pairs, size_bounds, with_columns};
 ghost use Rattle.bound_maker.specs.Columns.{IsColumn};
 ghost use Rattle.bound_maker.specs.Pairs.{IsBounded};
 ghost use Rattle.bound_maker.specs.declared.maker.MakeFault.TheVariants.{Memory};
 
 use crate::columns::{Column, column_at, columns_of};
 use crate::count::{capped, count_rule};
-use crate::reading::gather;
+use crate::reading::{gather, rows_of};
 use crate::rule::{Ruled, push_rule, ruled_from, sensor_count};
 use crate::values::push_sizes;
 use rule_file::Rules;
@@ -76,19 +77,28 @@ fn count_bounds(
     requires { AllByRecursion (IsColumn table.now.rows) columns.now }
     ensures { IfOk result (λ count. count ≡ min (length (made_bounds rules.now table.now)) (MOST_BOUNDS + 1)) }
 {
-    let mut count = capped(2 * table.len() as usize);
-    let mut number = 1;
+    let mut count = count_sizes(table);
+    let mut done = 0;
     let mut place = 0;
-    while let Some(ruled) = ruled_from(table.header(), rules, number, place) {
+    while let Some(ruled) = ruled_from(table.header(), rules, done + 1, place) {
         if count > MOST_BOUNDS {
             return Ok(count);
         }
         let more = count_of(alloc, table, columns, &ruled)?;
         count = capped(count as usize + more as usize);
-        number += 1;
+        done += 1;
         place += sensor_count(ruled.rule);
     }
     Ok(count)
+}
+
+/// How many bounds rule 0 makes of the table.
+fn count_sizes(table: &Table) -> u32
+    ensures { result ≡ min (length (size_bounds (places table.now))) (MOST_BOUNDS + 1) }
+{
+    // There are as many places as readings.
+    let _places = table.places();
+    capped(2 * table.len() as usize)
 }
 
 /// How many bounds a rule makes of the table.
@@ -101,9 +111,9 @@ fn count_of(
     requires { AllByRecursion (IsColumn table.now.rows) columns.now }
     ensures { IfOk result (λ count. (d : ℕ) → count ≡ min (length (bounds_of_kind made_pairs d table.now.rows ruled.now.number ruled.now.col ruled.now.second (seen_rule ruled.now.rule))) (MOST_BOUNDS + 1)) }
 {
-    let rows = table.all_rows();
-    match column_at(columns, ruled.col) {
-        Some(column) => Ok(count_rule(ruled, rows, column.readings.as_slice())),
+    let rows = rows_of(table);
+    match column_at(columns, rows, ruled.col) {
+        Some(readings) => Ok(count_rule(ruled, rows, readings)),
         None => {
             let readings = gather(alloc, rows, ruled.col)?;
             Ok(count_rule(ruled, rows, readings.as_slice()))
@@ -122,11 +132,11 @@ fn push_rules(
     requires { AllByRecursion (IsColumn table.now.rows) columns.now }
     ensures { OnOk result (bounds.new ≡ bounds.old ++ flat_map (bounds_of_rule made_pairs rules.now.format.decimals table.now.rows) (with_columns 1 (rules_in_order rules.now) table.now.header.sensor_cols)) }
 {
-    let mut number = 1;
+    let mut done = 0;
     let mut place = 0;
-    while let Some(ruled) = ruled_from(table.header(), rules, number, place) {
+    while let Some(ruled) = ruled_from(table.header(), rules, done + 1, place) {
         push_of(alloc, bounds, table, columns, &ruled, rules.format.decimals)?;
-        number += 1;
+        done += 1;
         place += sensor_count(ruled.rule);
     }
     Ok(())
@@ -145,9 +155,9 @@ fn push_of(
     requires bounded { IsBounded d (seen_rule ruled.now.rule) }
     ensures { OnOk result (bounds.new ≡ bounds.old ++ bounds_of_kind made_pairs d table.now.rows ruled.now.number ruled.now.col ruled.now.second (seen_rule ruled.now.rule)) }
 {
-    let rows = table.all_rows();
-    match column_at(columns, ruled.col) {
-        Some(column) => push_rule(bounds, ruled, d, rows, column.readings.as_slice()),
+    let rows = rows_of(table);
+    match column_at(columns, rows, ruled.col) {
+        Some(readings) => push_rule(bounds, ruled, d, rows, readings),
         None => {
             let readings = gather(alloc, rows, ruled.col)?;
             push_rule(bounds, ruled, d, rows, readings.as_slice())

@@ -10,8 +10,8 @@ ghost use Rattle.bound_maker.specs.Pairs.{HasSteps, IsBounded, pair_bound, speed
 ghost use Rattle.bound_maker.specs.Readings.{all_pairs, neighbours};
 ghost use Rattle.bound_maker.specs.Windows.{HasWindow, StampsRise};
 
-use crate::reading::Reading;
-use crate::window::{Span, Window, slide};
+use crate::reading::{Reading, first_of, later_of};
+use crate::window::{Span, Window, part_of, slide};
 use fix_point::Steps;
 use pair_bounds::{Stamp, drift_bound, swing_bound};
 use rule_file::{RuleAt, SpeedRule};
@@ -144,7 +144,15 @@ pub(crate) fn pair_bound(
         RuleAt::Speed(rule) => speed_bound(scope, rule, steps, from, to, side),
         RuleAt::Swing(rule) => swing_bound(scope.number, rule, scope.col, from, to, side),
         RuleAt::Drift(rule) => {
-            drift_bound(scope.number, rule, scope.decimals, scope.col, from, to, side)
+            drift_bound(
+                scope.number,
+                rule,
+                scope.decimals,
+                scope.col,
+                from,
+                to,
+                side,
+            )
         }
         RuleAt::Range(_) | RuleAt::Trust(_) | RuleAt::Weight(_) | RuleAt::Between(_) => None,
     }
@@ -218,11 +226,11 @@ pub(crate) fn push_pairs(
 {
     let mut rest = readings;
     let mut span = Span { start: 0, end: 0 };
-    while let [from, later @ ..] = rest {
+    while let Some(from) = first_of(rest) {
         span = slide(window, rest, from.stamp.ticks, span);
-        push_with_each(bounds, scope, rule, steps, from.stamp, &rest[span.start..span.end])?;
+        push_with_each(bounds, scope, rule, steps, from.stamp, part_of(rest, span))?;
         span = span.without_first();
-        rest = later;
+        rest = later_of(rest);
     }
     Ok(())
 }
@@ -260,8 +268,9 @@ pub(crate) fn push_neighbours(
     ensures { OnOk result (bounds.new ≡ bounds.old ++ bounds_of_pairs (pair_bound scope.number (seen_rule rule.entry) scope.decimals scope.col) (neighbours readings.now)) }
 {
     let mut rest = readings;
-    while let [from, later @ ..] = rest {
-        push_with_next(bounds, scope, rule, steps, *from, later)?;
+    while let Some(from) = first_of(rest) {
+        let later = later_of(rest);
+        push_with_next(bounds, scope, rule, steps, from, later)?;
         rest = later;
     }
     Ok(())

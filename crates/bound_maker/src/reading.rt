@@ -1,11 +1,14 @@
 //! The readings of a column.
-ghost use Rattle.std.specs.Prelude.{◌≡◌, ◌≤◌, [], ◌++◌, length, IfOk, OnOk};
+ghost use Rattle.std.specs.Prelude.{◌≡◌, ℕ, ◌≤◌, ◌^◌, [], ◌++◌, length, drop, slice_get, unsigned_abs, IfOk, OnOk};
+ghost use Rattle.std.specs.List.{AllByRecursion};
 ghost use Rattle.screen_model.specs.declared.limits.TheConstants.{MOST_ROWS};
+ghost use Rattle.bound_maker.specs.declared.reading.Reading.{Reading};
 ghost use Rattle.bound_maker.specs.Readings.{before_later, reading_in, readings_of, value_in};
+ghost use Rattle.bound_maker.specs.Windows.{StampsRise};
 
 use pair_bounds::Stamp;
 use sequence::Sequence;
-use series_csv::{Row, RowReading};
+use series_csv::{Row, RowReading, Table};
 use std::alloc::{AllocError, Global};
 
 /// A reading of a sensor.
@@ -15,6 +18,23 @@ pub(crate) struct Reading {
     pub(crate) stamp: Stamp,
     /// Its value, in units.
     pub(crate) value: i64,
+}
+
+/// The first reading, if there is one.
+pub(crate) fn first_of(readings: &[Reading]) -> Option<Reading>
+    ensures { result ≡ slice_get readings.now 0 }
+{
+    readings.first().copied()
+}
+
+/// The readings after the first.
+pub(crate) fn later_of(readings: &[Reading]) -> &[Reading]
+    ensures { result.now ≡ drop 1 readings.now }
+{
+    match readings {
+        [_, later @ ..] => later,
+        [] => readings,
+    }
 }
 
 /// The value of the reading in a column among those of a row, if there is one.
@@ -58,11 +78,7 @@ fn push_reading(
 }
 
 /// The readings in a column of rows, in their order.
-pub(crate) fn gather(
-    alloc: Global,
-    rows: &[Row],
-    col: u32,
-) -> Result<Sequence<Reading>, AllocError>
+pub(crate) fn gather(alloc: Global, rows: &[Row], col: u32) -> Result<Sequence<Reading>, AllocError>
     requires { length rows.now ≤ MOST_ROWS }
     ensures { IfOk result (λ readings. readings ≡ readings_of col rows.now) }
 {
@@ -73,4 +89,17 @@ pub(crate) fn gather(
         push_reading(&mut readings, number, row, col)?;
     }
     Ok(readings)
+}
+
+/// The rows of a table, of which each has a later time than those before it.
+pub(crate) fn rows_of(table: &Table) -> &[Row]
+    ensures rows { result.now ≡ table.now.rows }
+    ensures few { length result.now ≤ MOST_ROWS }
+    ensures rise { (col : ℕ) → StampsRise (readings_of col result.now) }
+    ensures small { (col : ℕ) → AllByRecursion (λ (reading : Reading). unsigned_abs reading.value ≤ 10 ^ 15) (readings_of col result.now) }
+{
+    // There are at most 200,000 rows, and each value is at most 10^15 in size.
+    let _count = table.rows();
+    let _values = table.series();
+    table.all_rows()
 }

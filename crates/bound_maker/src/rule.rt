@@ -8,7 +8,7 @@ ghost use Rattle.bound_maker.specs.Readings.{readings_of};
 ghost use Rattle.bound_maker.specs.Windows.{HasWindow, SpeaksOfNone, StampsRise};
 ghost use Rattle.rule_file.specs.Numbers.{rule_of, seen_rule, sensor_names};
 ghost use Rattle.bound_maker.specs.Pairs.{HasSteps, IsBounded, is_of_neighbours, pair_bound, pairs_of};
-ghost use Rattle.bound_maker.specs.Ruled.{IsRuled};
+ghost use Rattle.bound_maker.specs.Ruled.{IsRuled, named_before};
 
 use crate::between::push_rows;
 use crate::pairs::{Scope, push_neighbours, push_pairs};
@@ -63,14 +63,20 @@ pub(crate) fn ruled_from<'a>(
 }
 
 /// The rule of a number with the columns of its sensors, if there is one.
-pub(crate) fn ruled_at<'a>(header: &Header, rules: &'a Rules, number: u32) -> Option<Ruled<'a>> {
-    let place = rules.sensor_index(number)?;
-    ruled_from(header, rules, number, place)
+pub(crate) fn ruled_at<'a>(header: &Header, rules: &'a Rules, number: u32) -> Option<Ruled<'a>>
+    ensures { MatchOption result (rule_of rules.now number ≡ None)
+        (λ ruled. IsRuled rules.now header.now.sensor_cols number (named_before rules.now number) (seen_rule ruled.rule) ruled.number ruled.col ruled.second) }
+{
+    match rules.sensor_index(number) {
+        Some(place) => ruled_from(header, rules, number, place),
+        None => None,
+    }
 }
 
 /// How many sensors a rule speaks of.
 pub(crate) fn sensor_count(rule: RuleAt<'_>) -> u32
-    ensures { result ≡ length (sensor_names (seen_rule rule.entry)) }
+    ensures count { result ≡ length (sensor_names (seen_rule rule.entry)) }
+    ensures most { result ≤ 2 }
 {
     match rule {
         RuleAt::Between(_) => 2,
@@ -136,8 +142,8 @@ pub(crate) fn push_rule(
 ) -> Result<(), AllocError>
     requires few { length rows.now ≤ MOST_ROWS }
     requires readings { readings.now ≡ readings_of ruled.now.col rows.now }
-    requires rise { StampsRise readings.now }
-    requires small { AllByRecursion (λ (reading : Reading). unsigned_abs reading.value ≤ 10 ^ 15) readings.now }
+    requires rise { StampsRise (readings_of ruled.now.col rows.now) }
+    requires small { AllByRecursion (λ (reading : Reading). unsigned_abs reading.value ≤ 10 ^ 15) (readings_of ruled.now.col rows.now) }
     requires bounded { IsBounded d (seen_rule ruled.now.rule) }
     ensures { OnOk result (bounds.new ≡ bounds.old ++ bounds_of_kind made_pairs d rows.now ruled.now.number ruled.now.col ruled.now.second (seen_rule ruled.now.rule)) }
 {

@@ -230,7 +230,8 @@ fn still(alloc: Global, rows: u32) -> Result<Vec<u8>, Fail> {
 #[test]
 fn numbers_of_bounds(rt: HostRuntime) -> Result<(), Fail> {
     let alloc = rt.alloc();
-    let minute = "[format]\ndecimals = 2\n[[speed]]\nsensor = \"x\"\nmin = \"-0.05\"\nmax = \"0.05\"\nwindow = 60\n";
+    let minute =
+        "[format]\ndecimals = 2\n[[speed]]\nsensor = \"x\"\nmin = \"-0.05\"\nmax = \"0.05\"\nwindow = 60\n";
     let (rules, table) = read(alloc, minute, still(alloc, 3_600)?.as_slice())?;
     assert_eq!(rt; make(alloc, &table, &rules)?.len(), 14_398);
     let mut pairs = 0;
@@ -249,7 +250,8 @@ fn numbers_of_bounds(rt: HostRuntime) -> Result<(), Fail> {
         }
     }
     assert_eq!(rt; 2 * (pairs + 3_600), 435_540);
-    let long = "[format]\ndecimals = 0\n[[speed]]\nsensor = \"x\"\nmin = -1\nmax = 1\nwindow = 100000\n";
+    let long =
+        "[format]\ndecimals = 0\n[[speed]]\nsensor = \"x\"\nmin = -1\nmax = 1\nwindow = 100000\n";
     let (rules, table) = read(alloc, long, still(alloc, 5_000)?.as_slice())?;
     assert_eq!(rt; make(alloc, &table, &rules)?.len(), 19_998);
     let all = "[format]\ndecimals = 0\n[[swing]]\nsensor = \"x\"\nmost = 1\nwindow = 100000\n";
@@ -324,7 +326,10 @@ fn weights_and_costs(rt: HostRuntime) -> Result<(), Fail> {
         assert_eq!(rt; paid_of(&table, &rules, &bounds, &series), paid);
         assert_eq!(rt; cost_of(&table, &rules, &bounds, &series), change + paid);
         let found = first_broken(&table, &rules, &bounds, &series);
-        assert_eq!(rt; found.map(|name| (name.rule, name.from_row, name.side)), broken);
+        assert_eq!(rt;
+            found.map(|name| (name.rule, name.from_row, name.side)),
+            broken
+        );
     }
     Ok(())
 }

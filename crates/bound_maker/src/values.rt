@@ -1,6 +1,6 @@
 //! The bounds of rules on the value of one reading.
 ghost use Rattle.std.specs.Prelude.{◌≡◌, [], ◌++◌, ◌^◌, ◌≤◌, unsigned_abs, if◌then◌else◌, OnOk};
-ghost use Rattle.pair_bounds.specs.Pairs.{is_within};
+ghost use Rattle.pair_bounds.specs.Pairs.{is_within, place_in};
 ghost use Rattle.std.specs.List.{AllByRecursion, count_by};
 ghost use Rattle.bound_maker.specs.declared.reading.Reading.{Reading};
 ghost use Rattle.bound_maker.specs.Bounds.{bounds_in_time, size_bounds, value_bound, value_bounds};
@@ -8,6 +8,7 @@ ghost use Rattle.bound_maker.specs.Bounds.{bounds_in_time, size_bounds, value_bo
 use crate::pairs::{opposite, place_in};
 use crate::reading::Reading;
 use fix_point::MOST_UNITS;
+use pair_bounds::Stamp;
 use rule_file::{RangeRule, TrustRule};
 use screen_model::{Bound, BoundList, BoundName, End, Place, Side};
 use std::alloc::AllocError;
@@ -61,20 +62,70 @@ pub(crate) fn push_sizes(bounds: &mut BoundList, places: &[Place]) -> Result<(),
     Ok(())
 }
 
-/// Adds the bounds of a value at least the one number and at most the other, if the time lies between two others.
+/// Between which times a rule speaks of values, and between which numbers they are to lie.
+#[derive(Clone, Copy)]
+pub(crate) struct Limits {
+    /// The first tick.
+    pub(crate) from: i64,
+    /// The last tick.
+    pub(crate) to: i64,
+    /// The least value.
+    pub(crate) least: i64,
+    /// The greatest value.
+    pub(crate) most: i64,
+}
+
+/// The limits of a range rule.
+pub(crate) fn limits_of_range(rule: &RangeRule) -> Limits
+    ensures from { result.from ≡ rule.now.from }
+    ensures to { result.to ≡ rule.now.to }
+    ensures least { result.least ≡ rule.now.min }
+    ensures most { result.most ≡ rule.now.max }
+    ensures small { unsigned_abs result.least ≤ 10 ^ 15 }
+{
+    Limits {
+        from: rule.from,
+        to: rule.to,
+        least: rule.min,
+        most: rule.max,
+    }
+}
+
+/// The limits of a trust rule on a reading.
+pub(crate) fn limits_of_trust(rule: &TrustRule, reading: &Reading) -> Limits
+    ensures from { result.from ≡ rule.now.from }
+    ensures to { result.to ≡ rule.now.to }
+    ensures least { result.least ≡ reading.now.value }
+    ensures most { result.most ≡ reading.now.value }
+{
+    Limits {
+        from: rule.from,
+        to: rule.to,
+        least: reading.value,
+        most: reading.value,
+    }
+}
+
+/// Whether a rule with these limits speaks of a time.
+pub(crate) fn covers(limits: Limits, stamp: Stamp) -> bool
+    ensures { result ≡ is_within limits.from limits.to stamp.ticks }
+{
+    is_between(limits.from, limits.to, stamp.ticks)
+}
+
+/// Adds the bounds of the value at a time in a column, if the rule speaks of that time.
 fn push_in_time(
     bounds: &mut BoundList,
     number: u32,
-    place: Place,
-    within: bool,
-    least: i64,
-    most: i64,
+    col: u32,
+    limits: Limits,
+    stamp: Stamp,
 ) -> Result<(), AllocError>
-    requires { unsigned_abs least ≤ 10 ^ 15 }
-    ensures { OnOk result (bounds.new ≡ bounds.old ++ (if within then value_bounds number place least most else [])) }
+    requires { unsigned_abs limits.least ≤ 10 ^ 15 }
+    ensures { OnOk result (bounds.new ≡ bounds.old ++ (if is_within limits.from limits.to stamp.ticks then value_bounds number (place_in col stamp) limits.least limits.most else [])) }
 {
-    if within {
-        push_value(bounds, number, place, least, most)?;
+    if covers(limits, stamp) {
+        push_value(bounds, number, place_in(col, stamp), limits.least, limits.most)?;
     }
     Ok(())
 }
@@ -89,10 +140,9 @@ pub(crate) fn push_range(
 ) -> Result<(), AllocError>
     ensures { OnOk result (bounds.new ≡ bounds.old ++ bounds_in_time number col rule.now.from rule.now.to (λ value. rule.now.min) (λ value. rule.now.max) readings.now) }
 {
+    let limits = limits_of_range(rule);
     for reading in readings {
-        let within = is_between(rule.from, rule.to, reading.stamp.ticks);
-        let place = place_in(col, reading.stamp);
-        push_in_time(bounds, number, place, within, rule.min, rule.max)?;
+        push_in_time(bounds, number, col, limits, reading.stamp)?;
     }
     Ok(())
 }
@@ -109,9 +159,8 @@ pub(crate) fn push_trust(
     ensures { OnOk result (bounds.new ≡ bounds.old ++ bounds_in_time number col rule.now.from rule.now.to (λ value. value) (λ value. value) readings.now) }
 {
     for reading in readings {
-        let within = is_between(rule.from, rule.to, reading.stamp.ticks);
-        let place = place_in(col, reading.stamp);
-        push_in_time(bounds, number, place, within, reading.value, reading.value)?;
+        let limits = limits_of_trust(rule, reading);
+        push_in_time(bounds, number, col, limits, reading.stamp)?;
     }
     Ok(())
 }

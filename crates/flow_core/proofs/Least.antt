@@ -187,8 +187,8 @@ bound_tight problem flows series k whole is obeys terms below =
     record {
       free = λ free. forth (kept (sym (price_at problem k 1 below) ∙ eqb-true (get_or network.prices k 1) 0 free));
       more = λ room. forth (kept_if_more amount gain priced.price term kept carry.0 (λ some.
-      let price : capacity_numbered network k ≡ priced.price = capacity ∙ cond-false (eqb priced.price 0) (unpriced_capacity network) priced.price (ne_eqb priced.price 0 (λ e. omega arith)) in
-      omega (arith, ints, flow, room, ap pos price)));
+          let price : capacity_numbered network k ≡ priced.price = capacity ∙ cond-false (eqb priced.price 0) (unpriced_capacity network) priced.price (ne_eqb priced.price 0 (λ e. omega arith)) in
+          omega (arith, ints, flow, room, ap pos price)));
       back = λ some. turned (full_if_some amount gain priced.price term (omega (arith, ints, flow, some)));
     }
 
@@ -241,13 +241,13 @@ to_tight problem flows series r valued weighted below has =
     let node : value_of (pos 0 ∷ series) (1 + r) ≡ x = ap (value_of (pos 0 ∷ series)) (one_more r) in
     record {
       more = λ room.
-      let low = not_risen f g (x -ℤ value) weight has.term has.first has.second (inl (omega (arith, ints, room, f_is, ap pos capacity))) in
-      let here : RespectsArc (pos 0 ∷ series) (arc_to (1 + r) value) = omega (arith, ints, low, node) in
-      subst (λ (a : Arc). RespectsArc (pos 0 ∷ series) a) (sym arc_is) here;
+          let low = not_risen f g (x -ℤ value) weight has.term has.first has.second (inl (omega (arith, ints, room, f_is, ap pos capacity))) in
+          let here : RespectsArc (pos 0 ∷ series) (arc_to (1 + r) value) = omega (arith, ints, low, node) in
+          subst (λ (a : Arc). RespectsArc (pos 0 ∷ series) a) (sym arc_is) here;
       back = λ some.
-      let high = not_fallen f g (x -ℤ value) weight has.term has.first has.second (inl (omega (arith, ints, some, f_is))) in
-      let here : RespectsArc (pos 0 ∷ series) (reversed (arc_to (1 + r) value)) = omega (arith, ints, high, node) in
-      subst (λ (a : Arc). RespectsArc (pos 0 ∷ series) (reversed a)) (sym arc_is) here;
+          let high = not_fallen f g (x -ℤ value) weight has.term has.first has.second (inl (omega (arith, ints, some, f_is))) in
+          let here : RespectsArc (pos 0 ∷ series) (reversed (arc_to (1 + r) value)) = omega (arith, ints, high, node) in
+          subst (λ (a : Arc). RespectsArc (pos 0 ∷ series) (reversed a)) (sym arc_is) here;
     }
 
 from_tight : (problem : Problem) (flows series : List ℤ) (r : ℕ) → length problem.values ≡ length problem.places → length problem.weights ≡ length problem.places → r < length problem.places → HasTerm problem flows series r
@@ -271,21 +271,24 @@ from_tight problem flows series r valued weighted below has =
     let node : value_of (pos 0 ∷ series) (1 + r) ≡ x = ap (value_of (pos 0 ∷ series)) (one_more r) in
     record {
       more = λ room.
-      let high = not_fallen f g (x -ℤ value) weight has.term has.first has.second (inr (omega (arith, ints, room, g_is, ap pos capacity))) in
-      let here : RespectsArc (pos 0 ∷ series) (arc_from (1 + r) value) = omega (arith, ints, high, node) in
-      subst (λ (a : Arc). RespectsArc (pos 0 ∷ series) a) (sym arc_is) here;
+          let high = not_fallen f g (x -ℤ value) weight has.term has.first has.second (inr (omega (arith, ints, room, g_is, ap pos capacity))) in
+          let here : RespectsArc (pos 0 ∷ series) (arc_from (1 + r) value) = omega (arith, ints, high, node) in
+          subst (λ (a : Arc). RespectsArc (pos 0 ∷ series) a) (sym arc_is) here;
       back = λ some.
-      let low = not_risen f g (x -ℤ value) weight has.term has.first has.second (inr (omega (arith, ints, some, g_is))) in
-      let here : RespectsArc (pos 0 ∷ series) (reversed (arc_from (1 + r) value)) = omega (arith, ints, low, node) in
-      subst (λ (a : Arc). RespectsArc (pos 0 ∷ series) (reversed a)) (sym arc_is) here;
+          let low = not_risen f g (x -ℤ value) weight has.term has.first has.second (inr (omega (arith, ints, some, g_is))) in
+          let here : RespectsArc (pos 0 ∷ series) (reversed (arc_from (1 + r) value)) = omega (arith, ints, low, node) in
+          subst (λ (a : Arc). RespectsArc (pos 0 ∷ series) (reversed a)) (sym arc_is) here;
     }
 
 -- an arc behind those of the bounds is one of a reading
 place_of : (m count k : ℕ) → m ≤ k → k < m + 2 * count → (k - m) / 2 < count × ((k ≡ m + 2 * ((k - m) / 2)) ⊎ (k ≡ m + (2 * ((k - m) / 2) + 1)))
-place_of m count k from below = (omega arith, ⊎_elim
-    (λ (even : (k - m) % 2 ≡ 0). inl (omega (arith, even)))
-    (λ (odd : (k - m) % 2 ≡ 0 → ⊥). let one : (k - m) % 2 ≡ 1 = ⊎_elim (λ (none : (k - m) % 2 ≡ 0). absurd (odd none)) (λ (some : (k - m) % 2 ≡ 0 → ⊥). omega (arith, some)) (cases_eq ((k - m) % 2) 0) in inr (omega (arith, one)))
-    (cases_eq ((k - m) % 2) 0))
+place_of m count k from below = (
+  omega arith,
+  ⊎_elim
+      (λ (even : (k - m) % 2 ≡ 0). inl (omega (arith, even)))
+      (λ (odd : (k - m) % 2 ≡ 0 → ⊥). let one : (k - m) % 2 ≡ 1 = ⊎_elim (λ (none : (k - m) % 2 ≡ 0). absurd (odd none)) (λ (some : (k - m) % 2 ≡ 0 → ⊥). omega (arith, some)) (cases_eq ((k - m) % 2) 0) in inr (omega (arith, one)))
+      (cases_eq ((k - m) % 2) 0),
+)
 
 reading_tight : (problem : Problem) (flows series : List ℤ) (k : ℕ) → length problem.values ≡ length problem.places → length problem.weights ≡ length problem.places → IsDual problem flows → AreTermsEqual problem flows series
     → length (network_of problem).bounds ≤ k → k < length (arcs_of (network_of problem)) → IsReadingTight problem flows series k
@@ -315,13 +318,13 @@ series_tight problem flows series whole valued weighted is obeys terms =
     record {
       free = λ k below free. (of_bound k (omega (arith, unpriced_below network k free))).free free;
       more = λ k below room. ⊎_elim
-      (λ (bound : k < length network.bounds). (of_bound k bound).more room)
-      (λ (reading : length network.bounds ≤ k). (of_reading k reading below).more room)
-      (cases_lt k (length network.bounds));
+          (λ (bound : k < length network.bounds). (of_bound k bound).more room)
+          (λ (reading : length network.bounds ≤ k). (of_reading k reading below).more room)
+          (cases_lt k (length network.bounds));
       back = λ k below some. ⊎_elim
-      (λ (bound : k < length network.bounds). (of_bound k bound).back some)
-      (λ (reading : length network.bounds ≤ k). (of_reading k reading below).back some)
-      (cases_lt k (length network.bounds));
+          (λ (bound : k < length network.bounds). (of_bound k bound).back some)
+          (λ (reading : length network.bounds ≤ k). (of_reading k reading below).back some)
+          (cases_lt k (length network.bounds));
     }
 
 -- ---- the view of the tight arcs

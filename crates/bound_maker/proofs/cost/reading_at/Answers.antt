@@ -9,7 +9,7 @@ pub returns-in-Some : goal.returns-in-Some
 returns-in-Some c =
     let fits : SFits w64 c.value_of.result = search rules in
     to_z-of_z w64 c.value_of.result fits
-    ∙ (c.value_of.ensures ∙ sym (value_found (places c.args.table.now) c.args.series.now c.in-Some.i c.args.place c.places-_places.ensures.distinct c.in-Some.ensures))
+    ∙ (c.value_of.ensures ∙ sym (value_found (places c.args.table.now) c.args.series.now c.in-Some.i c.args.place c.places-places.ensures.distinct c.in-Some.ensures))
 
 pub returns-in-None : goal.returns-in-None
 returns-in-None c = sym (no_value (places c.args.table.now) c.args.series.now c.args.place c.in-None.ensures)

@@ -5,12 +5,12 @@ use Rattle.bound_maker.specs.Pairs.{pair_bound}
 use Rattle.bound_maker.specs.Readings.{neighbours}
 use Rattle.bound_maker.proofs.pairs.push_neighbours.Given as goal
 
-abbrev pub invariant-loop-rest : goal.invariant-loop-rest
-invariant-loop-rest l = record {
+abbrev pub invariant-loop-from : goal.invariant-loop-from
+invariant-loop-from l = record {
   steps : l.steps ≡ l.fn.steps;
   bounds : l.fn.bounds ++ bounds_of_pairs (pair_bound l.scope.number (seen_rule l.rule) l.scope.decimals l.scope.col) (neighbours l.readings)
       ≡ l.bounds ++ bounds_of_pairs (pair_bound l.scope.number (seen_rule l.rule) l.scope.decimals l.scope.col) (neighbours l.rest);
 }
 
-abbrev pub decreases-loop-rest : goal.decreases-loop-rest
-decreases-loop-rest l = length l.rest
+abbrev pub decreases-loop-from : goal.decreases-loop-from
+decreases-loop-from l = length l.rest

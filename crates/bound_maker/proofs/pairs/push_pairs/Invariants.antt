@@ -7,8 +7,8 @@ use Rattle.bound_maker.specs.Windows.{StampsRise}
 use Rattle.bound_maker.proofs.Sliding.{IsReady}
 use Rattle.bound_maker.proofs.pairs.push_pairs.Given as goal
 
-abbrev pub invariant-loop-rest : goal.invariant-loop-rest
-invariant-loop-rest l = record {
+abbrev pub invariant-loop-from : goal.invariant-loop-from
+invariant-loop-from l = record {
   steps : l.steps ≡ l.fn.steps;
   rise : StampsRise l.rest;
   ready : IsReady l.window l.rest l.span;
@@ -16,5 +16,5 @@ invariant-loop-rest l = record {
       ≡ l.bounds ++ bounds_of_pairs (pair_bound l.scope.number (seen_rule l.rule) l.scope.decimals l.scope.col) (all_pairs l.rest);
 }
 
-abbrev pub decreases-loop-rest : goal.decreases-loop-rest
-decreases-loop-rest l = length l.rest
+abbrev pub decreases-loop-from : goal.decreases-loop-from
+decreases-loop-from l = length l.rest

@@ -1,0 +1,2 @@
+pub mod Solvable
+pub mod Whole

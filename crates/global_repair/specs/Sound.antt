@@ -1,0 +1,16 @@
+-- stand-in until the law stands below
+use Rattle.std.specs.Prelude.{◌≡◌, ◌≤◌, ◌*◌, ◌^◌, ℕ, length, unsigned_abs}
+use Rattle.std.specs.List.{AllByRecursion}
+use Rattle.screen_model.specs.Obeys.{HasEnds}
+use Rattle.rule_file.specs.declared.rules.Rules.{Rules}
+use Rattle.series_csv.specs.File.{TableView}
+use Rattle.series_csv.specs.Readings.{places}
+use Rattle.bound_maker.specs.Bounds.{made_bounds, price_of_number}
+use Rattle.bound_maker.specs.Costs.{weights}
+
+pub record IsSound (rules : Rules) (table : TableView) : Type 0 where
+  pub ends : AllByRecursion (HasEnds (places table)) (made_bounds rules table)
+  pub limits : AllByRecursion (λ bound. unsigned_abs bound.limit ≤ 4 * 10 ^ 15) (made_bounds rules table)
+  pub weighted : length (weights rules table) ≡ length (places table)
+  pub weights : AllByRecursion (λ weight. weight ≤ 1000) (weights rules table)
+  pub prices : (number : ℕ) → price_of_number rules number ≤ 1000

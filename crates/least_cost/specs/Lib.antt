@@ -1,0 +1,4 @@
+pub mod Answer
+pub mod Cycle
+pub mod Problems
+pub mod Repair

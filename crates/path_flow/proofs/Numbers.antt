@@ -1,0 +1,64 @@
+-- The numbers of arcs and reverses, and those that leave a node.
+use Rattle.std.proofs.Common.{◌≡◌, ℕ, zero, suc, ◌+◌, ◌*◌, ◌/◌, ◌%◌, ◌<◌, ◌≤◌, Bool, true, false, eqb, List, [], ◌∷◌, Some, length, get_or, refl, sym, ap, ◌∙◌, subst, arith}
+use Rattle.std.specs.Prelude.{slice_get, Contains}
+use Rattle.std.proofs.lemmas.Bool.{eq-eqb, ne_eqb}
+use Rattle.std.proofs.lemmas.Option.{slice_get-get_or, slice_get_within, get_or_from_slice_get}
+use Rattle.bound_graph.specs.declared.arc.Arc.{Arc}
+use Rattle.bound_graph.specs.Graph.{leaving}
+use Rattle.bound_graph.proofs.Leaving.{exactly}
+use Rattle.flow_core.specs.Layout.{FlowNetwork, arcs_of, arc_numbered, no_arc}
+use Rattle.flow_core.specs.Views.{reversed, with_reverses}
+use Rattle.flow_core.proofs.BothWays.{length-with_reverses}
+use Rattle.flow_core.proofs.Elements.{half_more}
+use Rattle.path_flow.specs.Search.{arc_both_ways, is_odd, number_of, turned}
+
+pub number_half : (arc : ℕ) (back : Bool) → number_of arc back / 2 ≡ arc
+number_half arc true = omega arith
+number_half arc false = omega arith
+
+pub number_odd : (arc : ℕ) (back : Bool) → is_odd (number_of arc back) ≡ back
+number_odd arc true = eq-eqb ((2 * arc + 1) % 2) 1 (omega arith)
+number_odd arc false = ne_eqb ((2 * arc) % 2) 1 (λ e. absurd (omega (arith, e)))
+
+pub arc_of_number : (network : FlowNetwork) (arc : ℕ) (back : Bool) → arc_both_ways network (number_of arc back) ≡ turned back (arc_numbered network arc)
+arc_of_number network arc back = λ i. turned (number_odd arc back i) (arc_numbered network (number_half arc back i))
+
+odd_more : (n : ℕ) → is_odd (suc (suc n)) ≡ is_odd n
+odd_more n = ap (λ m. eqb m 1) (let e : suc (suc n) % 2 ≡ n % 2 = omega arith in e)
+
+both_ways_at : (arcs : List Arc) (n : ℕ) → n < length (with_reverses arcs) → get_or (with_reverses arcs) n no_arc ≡ turned (is_odd n) (get_or arcs (n / 2) no_arc)
+both_ways_at [] n below = absurd (omega arith)
+both_ways_at (arc ∷ arcs) zero below = refl
+both_ways_at (arc ∷ arcs) (suc zero) below = refl
+both_ways_at (arc ∷ arcs) (suc (suc n)) below =
+    both_ways_at arcs n (omega (arith, below))
+    ∙ (λ i. turned (sym (odd_more n) i) (get_or arcs (n / 2) no_arc))
+    ∙ ap (λ k. turned (is_odd (suc (suc n))) (get_or (arc ∷ arcs) k no_arc)) (sym (half_more n))
+
+-- a number among those that leave a node
+pub record IsLeaving (network : FlowNetwork) (node number : ℕ) : Type 0 where
+  pub below : number / 2 < length (arcs_of network)
+  pub tail : (arc_both_ways network number).tail ≡ node
+
+pub leaving_is : (network : FlowNetwork) (node number : ℕ) → Contains (leaving (with_reverses (arcs_of network)) node) number → IsLeaving network node number
+leaving_is network node number has =
+    let arcs = arcs_of network in
+    let leaves = (exactly (with_reverses arcs) node number).0 has in
+    let within = slice_get_within (with_reverses arcs) number leaves.0 leaves.1 in
+    let long = length-with_reverses arcs in
+    let below : number / 2 < length arcs = omega (arith, within, long) in
+    let arc : arc_both_ways network number ≡ leaves.0 = sym (both_ways_at arcs number within) ∙ get_or_from_slice_get (with_reverses arcs) number leaves.0 no_arc leaves.1 in
+    record { below = below; tail = ap (λ (a : Arc). a.tail) arc ∙ leaves.2 }
+
+-- and each step from the node has its number among them
+pub is_leaving : (network : FlowNetwork) (node arc : ℕ) (back : Bool) → arc < length (arcs_of network) → (turned back (arc_numbered network arc)).tail ≡ node → Contains (leaving (with_reverses (arcs_of network)) node) (number_of arc back)
+is_leaving network node arc back below tail =
+    let arcs = arcs_of network in
+    let number = number_of arc back in
+    let long = length-with_reverses arcs in
+    let half = number_half arc back in
+    let within : number < length (with_reverses arcs) = omega (arith, below, long, half) in
+    let there = both_ways_at arcs number within in
+    let same = arc_of_number network arc back in
+    (exactly (with_reverses arcs) node number).1
+    (get_or (with_reverses arcs) number no_arc, slice_get-get_or (with_reverses arcs) number no_arc within, ap (λ (a : Arc). a.tail) (there ∙ same) ∙ tail)

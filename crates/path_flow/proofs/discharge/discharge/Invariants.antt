@@ -1,0 +1,16 @@
+use Rattle.std.proofs.Common.{◌≡◌, ◌<◌, ℕ}
+use Rattle.flow_core.specs.Layout.{nodes_of}
+use Rattle.flow_core.specs.State.{IsNetwork}
+use Rattle.path_flow.specs.Flow.{IsLeft}
+use Rattle.path_flow.specs.Reach.{nothing_reached}
+use Rattle.path_flow.specs.Saturation.{HasNoNegatives}
+use Rattle.path_flow.proofs.discharge.discharge.Given as goal
+
+abbrev pub invariant-loop-node : goal.invariant-loop-node
+invariant-loop-node l = record {
+  same : l.net.network ≡ l.fn.net.network;
+  network : IsNetwork l.net;
+  optimal : HasNoNegatives l.net;
+  fresh : l.labels ≡ nothing_reached (nodes_of l.net.network);
+  left : (bound : ℕ) → IsLeft l.fn.net.network bound l.fn.net l.fn.spare 1 → IsLeft l.fn.net.network bound l.net l.spare l.node;
+}

@@ -1,0 +1,19 @@
+//! The fast solver of flow networks: successive shortest augmenting paths with potentials.
+//!
+//! The method is that of Jewell, Iri, and Busacker and Gowen, with the potentials of Edmonds and Karp (Theoretical
+//! improvements in algorithmic efficiency for network flow problems, 1972). Each search starts at a reading and ends
+//! at the first end that comes out of the heap, so that it visits what lies near and no more.
+#![tactic(auto)]
+
+mod augment;
+mod discharge;
+mod potentials;
+mod saturate;
+mod search;
+mod solver;
+mod starts;
+#[cfg(test)]
+mod tests;
+mod units;
+
+pub use solver::PathSolver;
