@@ -62,13 +62,7 @@ CountsReadFault source_faults ins now = Rose (source_faults ins.rules) (source_f
 abbrev pub CountsWriteFault : {K : Type 0} → (K → ℕ) → Outputs K → Outputs K → Type 0
 CountsWriteFault sink_faults outs now = Rose (sink_faults outs.cert) (sink_faults now.cert) ⊎ Rose (sink_faults outs.out) (sink_faults now.out)
 
-module _ {S K : Type 0} (left : S → Option (List ℕ)) (source_faults : S → ℕ) (held : K → Option (List ℕ)) (sink_faults : K → ℕ) where
-  -- The status is this one, apart from a counted read or write fault and want of memory.
-  abbrev pub IsApartFromFaults : Inputs S → Inputs S → Outputs K → Outputs K → Status → Status → Type 0
-  IsApartFromFaults ins ins_now outs outs_now due given =
-      (given ≡ due)
-      ⊎ (((given ≡ ReadFault) × CountsReadFault source_faults ins ins_now) ⊎ (((given ≡ WriteFault) × CountsWriteFault sink_faults outs outs_now) ⊎ (given ≡ Memory)))
-
+module _ {K : Type 0} (held : K → Option (List ℕ)) where
   -- The sinks gained the certificate of a repair and the repaired file, and the solver was used for it.
   pub record WritesRepair (rules : Rules) (table : TableView) (outs outs_now : Outputs K) (most : ℕ → ℕ → ℕ → ℕ → Option ℕ) (last : ℕ) : Type 0 where
     pub certificate : List ℕ
@@ -85,13 +79,20 @@ module _ {S K : Type 0} (left : S → Option (List ℕ)) (source_faults : S → 
     pub out : outs_now.out ≡ outs.out
     pub shows : ShowsCycle rules table certificate
 
+module _ {S K : Type 0} (left : S → Option (List ℕ)) (source_faults : S → ℕ) (held : K → Option (List ℕ)) (sink_faults : K → ℕ) where
+  -- The status is this one, apart from a counted read or write fault and want of memory.
+  abbrev pub IsApartFromFaults : Inputs S → Inputs S → Outputs K → Outputs K → Status → Status → Type 0
+  IsApartFromFaults ins ins_now outs outs_now due given =
+      (given ≡ due)
+      ⊎ (((given ≡ ReadFault) × CountsReadFault source_faults ins ins_now) ⊎ (((given ≡ WriteFault) × CountsWriteFault sink_faults outs outs_now) ⊎ (given ≡ Memory)))
+
   -- Apart from these, 0 is answered exactly where some series obeys, and then a repair is written; 1 exactly where none does,
   -- and then a cycle is; and with every status but 0, 1 and 6 both sinks are the same as before.
   pub record Decides (rules : Rules) (table : TableView) (ins ins_now : Inputs S) (outs outs_now : Outputs K) (most : ℕ → ℕ → ℕ → ℕ → Option ℕ) (last : ℕ) (given : Status) : Type 0 where
     pub some : SomeObeys rules table → IsApartFromFaults ins ins_now outs outs_now Done given
     pub none : ¬ SomeObeys rules table → IsApartFromFaults ins ins_now outs outs_now NoSeries given
-    pub repair : given ≡ Done → WritesRepair rules table outs outs_now most last
-    pub cycle : given ≡ NoSeries → WritesCycle rules table outs outs_now × (¬ SomeObeys rules table)
+    pub repair : given ≡ Done → WritesRepair held rules table outs outs_now most last
+    pub cycle : given ≡ NoSeries → WritesCycle held rules table outs outs_now × (¬ SomeObeys rules table)
     pub kept : given ≢ Done → given ≢ NoSeries → given ≢ WriteFault → (outs_now.cert ≡ outs.cert) × (outs_now.out ≡ outs.out)
 
   -- So it is over every rule file and every readings file that are accepted, and of which no more than 4,000,000 bounds

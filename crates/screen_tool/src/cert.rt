@@ -1,5 +1,5 @@
 //! The certificates that commands write.
-ghost use Rattle.std.specs.Prelude.{◌≡◌, ◌++◌, length, IfOk, OnOk};
+ghost use Rattle.std.specs.Prelude.{◌≡◌, [], ◌++◌, length, IfOk, OnOk};
 ghost use Rattle.cert_format.specs.declared.cert.SetLine.{SetLine};
 ghost use Rattle.series_csv.specs.Readings.{places, values};
 ghost use Rattle.screen_tool.specs.Certificates.{cert_of, repair_cert, sets_of, with_set};

@@ -13,6 +13,7 @@ use crate::files::{rules_from, table_from};
 use crate::laws::files_are_one;
 use crate::reply::Reply;
 use crate::status::{Ending, Outcome};
+use bound_maker::{names_can_be_written, problem_is_sound};
 use cert_format::write_cert;
 use flow_core::Solver;
 use global_repair::{Outcome as Found, repair};
@@ -57,6 +58,10 @@ fn reply_over<V: Solver>(
     ensures no_done { result ≢ Err (Ending.Ended Outcome.Done) }
     ensures most_stays { V.most solver.new ≡ V.most solver.old }
 {
+    // The laws that show that the certificate has a text; they do nothing.
+    problem_is_sound(table, rules);
+    names_can_be_written(table, rules);
+    let _places = table.places();
     let found = repair(alloc, table, rules, solver)?;
     let reply = reply_of(alloc, rules, table, found)?;
     Ok(reply)
