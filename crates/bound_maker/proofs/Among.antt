@@ -1,5 +1,5 @@
 -- The bound with a name among those of all rules.
-use Rattle.std.proofs.Common.{◌≡◌, ◌≢◌, ℕ, zero, suc, ◌+◌, ◌-◌, ◌<◌, ◌≤◌, ℤ, cond, List, [], ◌∷◌, ◌++◌, length, map, take, drop, get_or, Option, Some, None, refl, sym, ap, ◌∙◌, subst, append_assoc, arith}
+use Rattle.std.proofs.Common.{◌≡◌, ◌≢◌, ℕ, zero, suc, ◌+◌, ◌-◌, ◌<◌, ◌≤◌, List, [], ◌∷◌, ◌++◌, length, map, take, drop, get_or, Option, Some, None, refl, sym, ap, ◌∙◌, subst, append_assoc, arith}
 use Rattle.std.specs.Prelude.{slice_get, Contains, MatchOption}
 use Rattle.std.specs.List.{AllByRecursion, flat_map}
 use Rattle.std.proofs.lemmas.List.{length-take, take-append-drop}
@@ -75,8 +75,8 @@ none_above d rows name n rules cols h =
 split_at : (d : ℕ) (rows : List RowView) (rules : List Rule) (cols : List ℕ) (k : ℕ) (rule : Rule) (second : ℕ) → slice_get rules k ≡ Some rule → second ≡ get_or cols (suc (named (take k rules))) 0
     → flat_map (bounds_of_rule each_pair d rows) (with_columns 1 rules cols)
     ≡ flat_map (bounds_of_rule each_pair d rows) (with_columns 1 (take k rules) cols)
-      ++ (bounds_of_kind each_pair d rows (suc k) (get_or cols (named (take k rules)) 0) second rule
-      ++ flat_map (bounds_of_rule each_pair d rows) (with_columns (suc (suc k)) (drop (suc k) rules) (drop (named (take k rules) + length (sensor_names rule)) cols)))
+    ++ (bounds_of_kind each_pair d rows (suc k) (get_or cols (named (take k rules)) 0) second rule
+    ++ flat_map (bounds_of_rule each_pair d rows) (with_columns (suc (suc k)) (drop (suc k) rules) (drop (named (take k rules) + length (sensor_names rule)) cols)))
 split_at d rows rules cols k rule second found is =
     let f = bounds_of_rule each_pair d rows in
     let place = named (take k rules) in
@@ -110,8 +110,8 @@ at_rule rules table name k rule given col second found number is finds =
     let within = slice_get_within rs k rule is.rule_is in
     let long = length-take k rs in
     let finds_here : Finds here name found =
-        subst (λ (c : ℕ). Finds (bounds_of_kind each_pair d rows (suc k) c second rule) name found) col_is
-        (subst (λ (n : ℕ). Finds (bounds_of_kind each_pair d rows n col second rule) name found) is.number_is finds) in
+    subst (λ (c : ℕ). Finds (bounds_of_kind each_pair d rows (suc k) c second rule) name found) col_is
+    (subst (λ (n : ℕ). Finds (bounds_of_kind each_pair d rows n col second rule) name found) is.number_is finds) in
     let some : name.rule ≢ 0 = (λ zero_rule. absurd (omega (arith, number, zero_rule))) in
     let first = all_append (λ (b : Bound). b.name ≢ name) sizes front (no_size_of_rule name (places table) some) (none_below d rows name 1 (take k rs) cols (omega (arith, number, long))) in
     subst (λ (bs : List Bound). Finds (sizes ++ bs) name found) (sym (split_at d rows rs cols k rule second is.rule_is second_is))

@@ -40,7 +40,7 @@ pub changed_step : (weigh : RowReading → ℕ) (readings : List RowReading) (se
 changed_step weigh readings series i weight product old total h within is_weight is_product so_far =
     let more = changed_more weigh readings series i h within in
     let same : weight * unsigned_abs (get_or series i (pos 0) -ℤ (get_or readings i no_reading).value) ≡ weigh (get_or readings i no_reading) * unsigned_abs (get_or series i (pos 0) -ℤ (get_or readings i no_reading).value) =
-        ap (λ (w : ℕ). w * unsigned_abs (get_or series i (pos 0) -ℤ (get_or readings i no_reading).value)) is_weight in
+    ap (λ (w : ℕ). w * unsigned_abs (get_or series i (pos 0) -ℤ (get_or readings i no_reading).value)) is_weight in
     omega (arith, more, same, is_product, so_far)
 
 -- past the end nothing is changed

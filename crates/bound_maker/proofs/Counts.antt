@@ -1,6 +1,6 @@
 -- How many bounds a rule makes: two for each reading, pair of readings or row of which it speaks.
-use Rattle.std.proofs.Common.{◌≡◌, ℕ, suc, ◌+◌, ◌*◌, ◌≤◌, ℤ, Bool, true, false, cond, ◌&&◌, min, List, [], ◌∷◌, ◌++◌, length, Option, Some, None, refl, sym, ap, ◌∙◌, arith}
-use Rattle.std.specs.Prelude.{is_some, option_to_list, IsSome}
+use Rattle.std.proofs.Common.{◌≡◌, ℕ, suc, ◌+◌, ◌*◌, ℤ, Bool, true, false, cond, ◌&&◌, min, List, [], ◌∷◌, ◌++◌, length, Option, Some, None, refl, ap, ◌∙◌, arith}
+use Rattle.std.specs.Prelude.{is_some, option_to_list}
 use Rattle.std.specs.List.{count_by, flat_map}
 use Rattle.std.proofs.lemmas.Bool.{false≢true}
 use Rattle.std.proofs.lemmas.List.{length-append}
@@ -11,8 +11,7 @@ use Rattle.screen_model.specs.declared.bound.Side.TheVariants.{Up, Down}
 use Rattle.screen_model.specs.declared.place.Place.{Place}
 use Rattle.rule_file.specs.Numbers.{Rule}
 use Rattle.rule_file.specs.declared.rules.BetweenRule.{BetweenRule}
-use Rattle.pair_bounds.specs.declared.stamp.Stamp.{Stamp}
-use Rattle.pair_bounds.specs.Pairs.{between_bound, elapsed, is_within, place_in}
+use Rattle.pair_bounds.specs.Pairs.{between_bound, is_within, place_in}
 use Rattle.series_rows.specs.Row.{RowView}
 use Rattle.bound_maker.specs.declared.reading.Reading.{Reading}
 use Rattle.bound_maker.specs.declared.window.Window.{Window}

@@ -1,12 +1,11 @@
 -- The bound with a name among the bounds of pairs of readings, of readings and of rows.
-use Rattle.std.proofs.Common.{◌≡◌, ◌≢◌, ℕ, zero, suc, ◌+◌, ◌<◌, ◌≤◌, ℤ, pos, neg_ℤ, ◌≤ℤ◌, ◌<ℤ◌, Bool, true, false, cond, ◌⊎◌, inl, inr, List, [], ◌∷◌, ◌++◌, map, Option, Some, None, refl, sym, ap, ◌∙◌, subst, arith}
-use Rattle.std.specs.Prelude.{Contains, option_to_list, slice_get, is_some}
+use Rattle.std.proofs.Common.{◌≡◌, ◌≢◌, ℕ, ℤ, pos, neg_ℤ, ◌≤ℤ◌, ◌<ℤ◌, Bool, true, false, cond, ◌⊎◌, inl, inr, List, [], ◌∷◌, ◌++◌, map, Option, Some, None, refl, sym, ap, ◌∙◌, subst, arith}
+use Rattle.std.specs.Prelude.{Contains, option_to_list}
 use Rattle.std.specs.List.{AllByRecursion, flat_map}
-use Rattle.std.proofs.lemmas.Bool.{false≢true}
 use Rattle.std.proofs.lemmas.Int.{ints}
 use Rattle.std.proofs.lemmas.List.Elements.{Contains-append_left, Contains-append_right}
 use Rattle.words.specs.Lists.{Distinct}
-use Rattle.words.proofs.Lists.{all_append, all_at, all_from_map, all_map, all_weaker, contains_cases, contains_first, contains_later, contains_map, contains_none}
+use Rattle.words.proofs.Lists.{all_append, all_at, all_from_map, all_map, all_weaker, contains_cases, contains_first, contains_map, contains_none}
 use Rattle.screen_model.specs.declared.bound.Bound.{Bound}
 use Rattle.screen_model.specs.declared.bound.BoundName.{BoundName}
 use Rattle.screen_model.specs.declared.bound.Side.{Side}

@@ -1,5 +1,5 @@
 -- The bounds on the values of readings, as a loop adds them.
-use Rattle.std.proofs.Common.{◌≡◌, ℕ, ◌+◌, ◌<◌, ℤ, cond, List, [], ◌∷◌, ◌++◌, length, take, get_or, sym, ap, ◌∙◌}
+use Rattle.std.proofs.Common.{◌≡◌, ℕ, ◌+◌, ◌<◌, ℤ, cond, List, [], ◌++◌, length, take, get_or, sym, ap, ◌∙◌}
 use Rattle.std.specs.List.{flat_map}
 use Rattle.std.proofs.lemmas.List.{flat_map_more, take_more}
 use Rattle.screen_model.specs.declared.bound.Bound.{Bound}
@@ -24,10 +24,10 @@ in_time_more number col from to least most readings i d limits first old new h a
     let reading = get_or readings i d in
     let f = λ (r : Reading). cond (is_within from to r.stamp.ticks) (value_bounds number (place_in col r.stamp) (least r.value) (most r.value)) [] in
     let here : cond (is_within limits.from limits.to reading.stamp.ticks) (value_bounds number (place_in col reading.stamp) limits.least limits.most) [] ≡ f reading =
-        ap (λ (z : ℤ). cond (is_within z limits.to reading.stamp.ticks) (value_bounds number (place_in col reading.stamp) limits.least limits.most) []) are.from_is
-        ∙ (ap (λ (z : ℤ). cond (is_within from z reading.stamp.ticks) (value_bounds number (place_in col reading.stamp) limits.least limits.most) []) are.to_is
-        ∙ (ap (λ (z : ℤ). cond (is_within from to reading.stamp.ticks) (value_bounds number (place_in col reading.stamp) z limits.most) []) are.least_is
-        ∙ ap (λ (z : ℤ). cond (is_within from to reading.stamp.ticks) (value_bounds number (place_in col reading.stamp) (least reading.value) z) []) are.most_is)) in
+    ap (λ (z : ℤ). cond (is_within z limits.to reading.stamp.ticks) (value_bounds number (place_in col reading.stamp) limits.least limits.most) []) are.from_is
+    ∙ (ap (λ (z : ℤ). cond (is_within from z reading.stamp.ticks) (value_bounds number (place_in col reading.stamp) limits.least limits.most) []) are.to_is
+    ∙ (ap (λ (z : ℤ). cond (is_within from to reading.stamp.ticks) (value_bounds number (place_in col reading.stamp) z limits.most) []) are.least_is
+    ∙ ap (λ (z : ℤ). cond (is_within from to reading.stamp.ticks) (value_bounds number (place_in col reading.stamp) (least reading.value) z) []) are.most_is)) in
     is
     ∙ (ap (λ (bs : List Bound). bs ++ cond (is_within limits.from limits.to reading.stamp.ticks) (value_bounds number (place_in col reading.stamp) limits.least limits.most) []) so_far
     ∙ (ap (λ (bs : List Bound). (first ++ flat_map f (take i readings)) ++ bs) here

@@ -1,5 +1,5 @@
 -- How many bounds a rule of each kind makes, as the code counts them.
-use Rattle.std.proofs.Common.{◌≡◌, ℕ, ◌+◌, ◌*◌, ℤ, ◌&&◌, min, List, [], length, refl, sym, ap, ◌∙◌, arith}
+use Rattle.std.proofs.Common.{◌≡◌, ℕ, ◌*◌, ℤ, ◌&&◌, min, List, length, sym, ap, ◌∙◌, arith}
 use Rattle.std.specs.Prelude.{is_some}
 use Rattle.std.specs.List.{count_by}
 use Rattle.screen_model.specs.declared.bound.Bound.{Bound}
@@ -28,9 +28,9 @@ module _ (d : ℕ) (rows : List RowView) (number col second most m : ℕ) (r : R
       → f ≡ from → t ≡ to → readings ≡ readings_of col rows → n ≡ count_by (λ (reading : Reading). is_within f t reading.stamp.ticks) readings → m ≡ min n most → IsCounted
   in_time f t from to least most_of readings n are same equal is counted capped =
       let count : n ≡ count_by (λ (reading : Reading). is_within from to reading.stamp.ticks) (readings_of col rows) =
-          counted ∙ (ap (λ (z : ℤ). count_by (λ (reading : Reading). is_within z t reading.stamp.ticks) readings) same
-          ∙ (ap (λ (z : ℤ). count_by (λ (reading : Reading). is_within from z reading.stamp.ticks) readings) equal
-          ∙ ap (λ (rs : List Reading). count_by (λ (reading : Reading). is_within from to reading.stamp.ticks) rs) is)) in
+      counted ∙ (ap (λ (z : ℤ). count_by (λ (reading : Reading). is_within z t reading.stamp.ticks) readings) same
+      ∙ (ap (λ (z : ℤ). count_by (λ (reading : Reading). is_within from z reading.stamp.ticks) readings) equal
+      ∙ ap (λ (rs : List Reading). count_by (λ (reading : Reading). is_within from to reading.stamp.ticks) rs) is)) in
       let values = values_count number col from to least most_of (readings_of col rows) in
       let long = ap (λ (bs : List Bound). length bs) are in
       capped_two n m (length (bounds_of_kind made_pairs d rows number col second r)) most (omega (arith, count, values, long)) capped

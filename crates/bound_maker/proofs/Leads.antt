@@ -1,18 +1,18 @@
 -- How many readings lie in the window of another, by those that stand before two moments.
-use Rattle.std.proofs.Common.{◌≡◌, ℕ, zero, suc, ◌+◌, ◌-◌, ◌≤◌, ℤ, pos, ◌+ℤ◌, ◌-ℤ◌, ◌≤ℤ◌, ◌<ℤ◌, Bool, true, false, cond, not, ◌&&◌, min, List, [], ◌∷◌, ◌++◌, map, refl, sym, ap, ◌∙◌, arith}
+use Rattle.std.proofs.Common.{◌≡◌, ℕ, suc, ◌+◌, ◌-◌, ℤ, pos, ◌+ℤ◌, ◌-ℤ◌, ◌≤ℤ◌, Bool, true, false, cond, not, ◌&&◌, min, List, [], ◌∷◌, ◌++◌, map, refl, sym, ap, ◌∙◌, arith}
 use Rattle.std.specs.Prelude.{int_le, int_lt}
 use Rattle.std.specs.List.{AllByRecursion, count_by}
-use Rattle.std.proofs.lemmas.Bool.{false≢true, and_right}
+use Rattle.std.proofs.lemmas.Bool.{and_right}
 use Rattle.std.proofs.lemmas.Int.{ints}
 use Rattle.std.proofs.lemmas.List.Sums.{sum_by-append}
 use Rattle.words.proofs.Lists.{all_weaker}
-use Rattle.pair_bounds.specs.Pairs.{elapsed, is_within}
+use Rattle.pair_bounds.specs.Pairs.{is_within}
 use Rattle.bound_maker.specs.declared.reading.Reading.{Reading}
 use Rattle.bound_maker.specs.declared.window.Window.{Window}
-use Rattle.bound_maker.specs.Readings.{all_pairs, neighbours}
+use Rattle.bound_maker.specs.Readings.{all_pairs}
 use Rattle.bound_maker.specs.Windows.{IsWindow, StampsRise, count_before, is_before, is_pair_within, lead}
 use Rattle.bound_maker.proofs.Counts.{count_first}
-use Rattle.bound_maker.proofs.Windows.{Fades, fades, first_is_before}
+use Rattle.bound_maker.proofs.Windows.{Fades, fades}
 
 -- ---- the count of what passes the second test and not the first
 

@@ -16,9 +16,13 @@ pub mod Making
 pub mod Named
 pub mod Parts
 pub mod Payments
+pub mod Reaches
 pub mod Rules
 pub mod SensorPlaces
 pub mod Sliding
+pub mod Soundness
+pub mod Standing
 pub mod Steps
+pub mod Weighing
 pub mod Weights
 pub mod Windows

@@ -1,10 +1,10 @@
 -- The reading in a row and a column, and the bounds of one reading or of one row with a name.
-use Rattle.std.proofs.Common.{◌≡◌, ◌≢◌, ℕ, zero, suc, ◌+◌, ◌<◌, ◌≤◌, ◌^◌, ℤ, pos, neg_ℤ, Bool, true, false, cond, List, [], ◌∷◌, ◌++◌, map, Option, Some, None, refl, sym, ap, ◌∙◌, subst, arith}
-use Rattle.std.specs.Prelude.{Contains, slice_get, is_some, unsigned_abs}
-use Rattle.std.specs.List.{AllByRecursion, flat_map}
+use Rattle.std.proofs.Common.{◌≡◌, ◌≢◌, ℕ, zero, suc, ◌+◌, ◌<◌, ◌≤◌, ℤ, neg_ℤ, Bool, true, false, cond, List, [], ◌∷◌, map, Option, Some, None, refl, sym, ap, ◌∙◌, subst, arith}
+use Rattle.std.specs.Prelude.{Contains, slice_get, is_some}
+use Rattle.std.specs.List.{AllByRecursion}
 use Rattle.std.proofs.lemmas.List.Elements.{Contains-append_left, Contains-append_right}
 use Rattle.words.specs.Lists.{Distinct}
-use Rattle.words.proofs.Lists.{all_append, all_at, all_weaker, contains_cases, contains_first, contains_later, contains_none}
+use Rattle.words.proofs.Lists.{all_append, all_weaker, contains_first, contains_later}
 use Rattle.screen_model.specs.declared.bound.Bound.{Bound}
 use Rattle.screen_model.specs.declared.bound.BoundName.{BoundName}
 use Rattle.screen_model.specs.declared.bound.Side.{Side}
@@ -19,7 +19,7 @@ use Rattle.series_csv.specs.File.{TableView}
 use Rattle.series_csv.specs.Readings.{row_at}
 use Rattle.bound_maker.specs.declared.reading.Reading.{Reading}
 use Rattle.bound_maker.specs.Bounds.{both_sides, bounds_in_rows, bounds_in_time, bounds_of_kind, bounds_of_pairs, col_if_read, size_bounds, value_bound, value_bounds}
-use Rattle.bound_maker.specs.Named.{AreElsewhere, AreUnnamed, Finds, HasNone, IsNamed, each_pair}
+use Rattle.bound_maker.specs.Named.{AreElsewhere, Finds, HasNone, IsNamed, each_pair}
 use Rattle.bound_maker.specs.Pairs.{pair_bound}
 use Rattle.bound_maker.specs.Readings.{all_pairs, before_later, reading_in, readings_from, readings_of}
 use Rattle.bound_maker.specs.declared.values.Limits.{Limits}
@@ -311,7 +311,7 @@ rows_other number n first second rule [] name other = tt
 rows_other number n first second rule (row ∷ rows) name other =
     all_append (λ (b : Bound). b.name ≢ name) (both_sides (between_bound number rule n (col_if_read first row) (col_if_read second row))) (bounds_in_rows (between_bound number rule) first second (suc n) rows)
     (none_of_both (between_bound number rule n (col_if_read first row) (col_if_read second row)) name
-        (λ side b is same. other (ap (λ (m : BoundName). m.col) (sym (row_named number rule n first second row side b is) ∙ same))))
+    (λ side b is same. other (ap (λ (m : BoundName). m.col) (sym (row_named number rule n first second row side b is) ∙ same))))
     (rows_other number (suc n) first second rule rows name other)
 
 each_pair_of : {P : Reading × Reading → Type 0} → ((pair : Reading × Reading) → P pair) → (pairs : List (Reading × Reading)) → AllByRecursion P pairs
@@ -322,7 +322,7 @@ pairs_other : (number d col : ℕ) (rule : Rule) (pairs : List (Reading × Readi
 pairs_other number d col rule pairs name other =
     none_flat (λ (pair : Reading × Reading). both_sides (pair_bound number rule d col pair.0.stamp pair.1.stamp)) name pairs
     (each_pair_of (λ pair. none_of_both (pair_bound number rule d col pair.0.stamp pair.1.stamp) name
-        (λ side b is same. other (ap (λ (n : BoundName). n.col) (sym (of_pair number d col rule pair.0.stamp pair.1.stamp side b is).named ∙ same)))) pairs)
+    (λ side b is same. other (ap (λ (n : BoundName). n.col) (sym (of_pair number d col rule pair.0.stamp pair.1.stamp side b is).named ∙ same)))) pairs)
 
 pub kind_elsewhere : (d : ℕ) (rows : List RowView) (number col second : ℕ) (rule : Rule) (name : BoundName) → col ≢ name.col → HasNone (bounds_of_kind each_pair d rows number col second rule) name
 kind_elsewhere d rows number col second (speed rule) name other = pairs_other number d col (speed rule) (all_pairs (readings_of col rows)) name other

@@ -1,6 +1,6 @@
 -- Loops over readings, by the first of those that are left and the others.
-use Rattle.std.proofs.Common.{◌≡◌, ℕ, suc, ◌+◌, ◌-◌, ◌≤◌, ℤ, pos, ◌+ℤ◌, ◌-ℤ◌, ◌≤ℤ◌, ◌<ℤ◌, Bool, true, false, cond, not, ◌&&◌, ◌||◌, min, List, [], ◌∷◌, ◌++◌, length, map, take, drop, Option, Some, None, refl, sym, ap, ◌∙◌, subst, append_assoc, arith}
-use Rattle.std.specs.Prelude.{int_le, int_lt, slice_get, option_to_list}
+use Rattle.std.proofs.Common.{◌≡◌, ℕ, ◌+◌, ◌-◌, ◌≤◌, ℤ, pos, ◌+ℤ◌, ◌-ℤ◌, Bool, true, false, cond, not, ◌&&◌, ◌||◌, min, List, [], ◌∷◌, ◌++◌, length, take, drop, Option, Some, None, refl, sym, ap, ◌∙◌, subst, append_assoc, arith}
+use Rattle.std.specs.Prelude.{int_le, int_lt, slice_get}
 use Rattle.std.specs.List.{count_by, flat_map, list_any}
 use mir.Val.{bool_byte}
 use Rattle.std.proofs.lemmas.Int.{ints}
@@ -8,7 +8,6 @@ use Rattle.std.proofs.lemmas.List.{append-nil}
 use Rattle.std.proofs.lemmas.List.Concat.{flat_map-append}
 use Rattle.screen_model.specs.declared.bound.Bound.{Bound}
 use Rattle.screen_model.specs.declared.bound.Side.{Side}
-use Rattle.screen_model.specs.declared.bound.Side.TheVariants.{Up, Down}
 use Rattle.rule_file.specs.Numbers.{Rule}
 use Rattle.pair_bounds.specs.declared.stamp.Stamp.{Stamp}
 use Rattle.pair_bounds.specs.Pairs.{elapsed, is_within}
@@ -150,9 +149,9 @@ module _ (number d col : ℕ) (rule : Rule) where
       let inside = is_before from (window.most +ℤ pos 1) in
       let own : bounds_with x.stamp x ≡ [] = out_of_window window x.stamp x has (not_its_own window.least window.most from has.is_window.least) in
       let all = between_leads early inside (bounds_with x.stamp) (x ∷ xs) (fades from window.least (x ∷ xs) rise) (fades from (window.most +ℤ pos 1) (x ∷ xs) rise)
-          (λ y before. before_both from window.least window.most y has.is_window.ordered before)
-          (λ y before. out_of_window window x.stamp y has (early_out window.least window.most (y.stamp.ticks -ℤ from) before))
-          (λ y late. out_of_window window x.stamp y has (late_out window.least window.most (y.stamp.ticks -ℤ from) late)) in
+      (λ y before. before_both from window.least window.most y has.is_window.ordered before)
+      (λ y before. out_of_window window x.stamp y has (early_out window.least window.most (y.stamp.ticks -ℤ from) before))
+      (λ y late. out_of_window window x.stamp y has (late_out window.least window.most (y.stamp.ticks -ℤ from) late)) in
       sym (ap (λ (bs : List Bound). bs ++ flat_map (bounds_with x.stamp) xs) own)
       ∙ (all
       ∙ (ap (λ (n : ℕ). flat_map (bounds_with x.stamp) (take (n - count_before from window.least (x ∷ xs)) (drop (count_before from window.least (x ∷ xs)) (x ∷ xs)))) (sym is.end)
@@ -167,7 +166,7 @@ module _ (number d col : ℕ) (rule : Rule) where
       let same : y ≡ x = some_same (sym first) in
       let of = of_first window y ys x t span same time spans in
       let here : flat_map (bounds_with y.stamp) ys ≡ flat_map (bounds_with x.stamp) part =
-          span_bounds window y ys span has rise of ∙ (ap (λ (zs : List Reading). flat_map (bounds_with y.stamp) zs) (sym part_is) ∙ ap (λ (z : Reading). flat_map (bounds_with z.stamp) part) same) in
+      span_bounds window y ys span has rise of ∙ (ap (λ (zs : List Reading). flat_map (bounds_with y.stamp) zs) (sym part_is) ∙ ap (λ (z : Reading). flat_map (bounds_with z.stamp) part) same) in
       so_far ∙ (ap (λ (bs : List Bound). old ++ bs) (pairs_first bound_of y ys)
       ∙ (ap (λ (bs : List Bound). old ++ (bs ++ bounds_of_pairs bound_of (all_pairs ys))) here
       ∙ (sym (append_assoc old (flat_map (bounds_with x.stamp) part) (bounds_of_pairs bound_of (all_pairs ys)))

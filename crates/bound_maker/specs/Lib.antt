@@ -7,5 +7,6 @@ pub mod Named
 pub mod Pairs
 pub mod Readings
 pub mod Ruled
+pub mod Sound
 pub mod Weighed
 pub mod Windows

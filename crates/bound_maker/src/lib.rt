@@ -14,6 +14,7 @@ mod name;
 mod pairs;
 mod reading;
 mod rule;
+mod sound;
 #[cfg(test)]
 mod tests;
 mod values;
@@ -24,4 +25,5 @@ pub use cost::{cost_of, first_broken, paid_of, price_of};
 pub use laws::{best_over_made, made_bind_all, made_is_a_part, names_are_distinct};
 pub use maker::{MOST_BOUNDS, MakeFault, make};
 pub use name::bound_of;
+pub use sound::problem_is_sound;
 pub use weight::{change_of, weight_of};

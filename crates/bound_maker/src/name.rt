@@ -83,7 +83,13 @@ fn bound_in_column(table: &Table, ruled: &Ruled<'_>, d: u32, name: BoundName) ->
 }
 
 /// The bound of a rule with this name.
-fn bound_of_rule(table: &Table, rule: RuleAt<'_>, second: u32, d: u32, name: BoundName) -> Option<Bound>
+fn bound_of_rule(
+    table: &Table,
+    rule: RuleAt<'_>,
+    second: u32,
+    d: u32,
+    name: BoundName,
+) -> Option<Bound>
     requires { IsBounded d (seen_rule rule) }
     ensures { Finds (bounds_of_kind each_pair d table.now.rows name.rule name.col second (seen_rule rule.entry)) name result }
 {
@@ -126,7 +132,12 @@ fn bound_on_value(limits: Limits, name: BoundName, reading: Reading) -> Option<B
 {
     if covers(limits, reading.stamp) {
         let limit = limit_on(limits, name.side);
-        Some(value_bound(name.rule, place_in(name.col, reading.stamp), limit, name.side))
+        Some(value_bound(
+            name.rule,
+            place_in(name.col, reading.stamp),
+            limit,
+            name.side,
+        ))
     } else {
         None
     }
@@ -154,7 +165,14 @@ fn bound_in_row(table: &Table, rule: &BetweenRule, second: u32, name: BoundName)
         Some(row) => {
             let first_col = col_if_read(row, name.col);
             let second_col = col_if_read(row, second);
-            between_bound(name.rule, rule, name.from_row, first_col, second_col, name.side)
+            between_bound(
+                name.rule,
+                rule,
+                name.from_row,
+                first_col,
+                second_col,
+                name.side,
+            )
         }
         None => None,
     }

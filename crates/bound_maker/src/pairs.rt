@@ -1,8 +1,8 @@
 //! The bounds of rules on two readings of a column.
-ghost use Rattle.std.specs.Prelude.{◌≡◌, ◌*◌, ◌^◌, ◌≤◌, ◌++◌, neg_ℤ, option_to_list, unsigned_abs, OnOk};
+ghost use Rattle.std.specs.Prelude.{◌≡◌, ◌*◌, ◌^◌, ◌≤◌, ◌++◌, neg_ℤ, option_to_list, unsigned_abs, OnOk, Some};
 ghost use Rattle.std.specs.List.{flat_map};
 ghost use Rattle.fix_point.specs.RateLimits.{AreWithinReach};
-ghost use Rattle.pair_bounds.specs.Pairs.{elapsed, is_within, place_in, rate_limit, rise_bound};
+ghost use Rattle.pair_bounds.specs.Pairs.{elapsed, is_within, limit_on, place_in, rate_limit, rise_bound, swing_bound};
 ghost use Rattle.rule_file.specs.Limits.{AreInReach};
 ghost use Rattle.rule_file.specs.Numbers.{seen_rule};
 ghost use Rattle.bound_maker.specs.Bounds.{both_sides, bounds_of_pairs, speed_bound};
@@ -14,7 +14,7 @@ use crate::reading::{Reading, first_of, later_of};
 use crate::window::{Span, Window, part_of, slide};
 use fix_point::Steps;
 use pair_bounds::{Stamp, drift_bound, swing_bound};
-use rule_file::{RuleAt, SpeedRule};
+use rule_file::{RuleAt, SpeedRule, SwingRule};
 use screen_model::{Bound, BoundList, BoundName, End, Place, Side};
 use std::alloc::AllocError;
 
@@ -168,6 +168,48 @@ pub(crate) fn push_bound(bounds: &mut BoundList, bound: Option<Bound>) -> Result
     }
 }
 
+/// Adds the bounds of a rise that is at least the one number and at most the other.
+fn push_rise(
+    bounds: &mut BoundList,
+    number: u32,
+    from: Place,
+    to: Place,
+    least: i64,
+    most: i64,
+) -> Result<(), AllocError>
+    requires { unsigned_abs least ≤ 4 * 10 ^ 15 }
+    ensures { OnOk result (bounds.new ≡ bounds.old ++ both_sides (λ side. Some (rise_bound number from to (limit_on side least most) side))) }
+{
+    bounds.push(rise_bound(number, from, to, most, Side::Up))?;
+    bounds.push(rise_bound(number, from, to, opposite(least), Side::Down))?;
+    Ok(())
+}
+
+/// Adds the bounds of a swing rule on the readings of its column in two rows. The pair is looked at once.
+fn push_swing(
+    bounds: &mut BoundList,
+    scope: Scope,
+    rule: &SwingRule,
+    from: Stamp,
+    to: Stamp,
+) -> Result<(), AllocError>
+    ensures { OnOk result (bounds.new ≡ bounds.old ++ both_sides (swing_bound scope.number rule.now scope.col from to)) }
+{
+    if !is_within(1, rule.window, elapsed(from, to)) {
+        return Ok(());
+    }
+    let first = place_in(scope.col, from);
+    let second = place_in(scope.col, to);
+    push_rise(
+        bounds,
+        scope.number,
+        first,
+        second,
+        opposite(rule.most),
+        rule.most,
+    )
+}
+
 /// Adds the bounds of a rule on the readings of its column in two rows.
 fn push_pair(
     bounds: &mut BoundList,
@@ -182,6 +224,9 @@ fn push_pair(
     ensures bounds { OnOk result (bounds.new ≡ bounds.old ++ both_sides (pair_bound scope.number (seen_rule rule.entry) scope.decimals scope.col from to)) }
     ensures steps { steps.new ≡ steps.old }
 {
+    if let RuleAt::Swing(rule) = rule {
+        return push_swing(bounds, scope, rule, from, to);
+    }
     let up = pair_bound(scope, rule, steps, from, to, Side::Up);
     push_bound(bounds, up)?;
     let down = pair_bound(scope, rule, steps, from, to, Side::Down);

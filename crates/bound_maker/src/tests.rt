@@ -1,16 +1,16 @@
 //! The bounds of rules of each kind, their number, bounds by their names, weights, prices and costs.
+ghost use Rattle.std.specs.Prelude.{◌≤◌, length};
+ghost use Rattle.bound_maker.specs.declared.maker.TheConstants.{MOST_BOUNDS};
+
 use crate::{
     MakeFault, bound_of, change_of, cost_of, first_broken, make, paid_of, price_of, weight_of,
 };
 use rule_file::{Rules, read_rules};
-use screen_model::{Bound, BoundName, End, Place, Series, Side};
+use screen_model::{Bound, BoundList, BoundName, End, Place, Series, Side};
 use series_csv::{Table, read_table};
 use std::alloc::Global;
 use std::process::Abort;
 use std::test::Fail;
-
-/// The greatest size of a value.
-const SIZE: i64 = 1_000_000_000_000_000;
 
 const SPEED: &str = "[format]
 decimals = 0
@@ -82,44 +82,188 @@ from = \"1\"
 to = \"2\"
 ";
 
-/// Two bounds: rule, rows, columns of which the second is 0 for a bound on one value, limits up and down.
-type Both = (u32, u32, u32, u32, u32, i64, i64);
+const MINUTE: &str = "[format]
+decimals = 2
+[[speed]]
+sensor = \"x\"
+min = \"-0.05\"
+max = \"0.05\"
+window = 60
+";
 
-/// The bounds of rule 0 on the reading in a row and a column.
-const fn sized(row: u32, col: u32) -> Both {
-    (0, row, row, col, 0, SIZE, SIZE)
+const LONG: &str = "[format]
+decimals = 0
+[[speed]]
+sensor = \"x\"
+min = -1
+max = 1
+window = 100000
+";
+
+const ALL: &str = "[format]
+decimals = 0
+[[swing]]
+sensor = \"x\"
+most = 1
+window = 100000
+";
+
+/// Readings of two sensors; one row lacks the first.
+const ROWS: &str = "time,out,note,in\n0,10,a,20\n1,,b,30\n2,8,,9\n";
+
+// The bounds that are made: rule, rows, column, side, row and column of both ends, which are 0 for none, and limit.
+
+const STEADY: &str = "0 1 1 2 up: 0 0 to 1 2 at most 1000000000000000
+0 1 1 2 down: 1 2 to 0 0 at most 1000000000000000
+0 2 2 2 up: 0 0 to 2 2 at most 1000000000000000
+0 2 2 2 down: 2 2 to 0 0 at most 1000000000000000
+0 3 3 2 up: 0 0 to 3 2 at most 1000000000000000
+0 3 3 2 down: 3 2 to 0 0 at most 1000000000000000
+1 1 2 2 up: 1 2 to 2 2 at most 1
+1 1 2 2 down: 2 2 to 1 2 at most 1
+1 2 3 2 up: 2 2 to 3 2 at most 1
+1 2 3 2 down: 3 2 to 2 2 at most 1
+";
+
+const APART: &str = "0 1 1 2 up: 0 0 to 1 2 at most 1000000000000000
+0 1 1 2 down: 1 2 to 0 0 at most 1000000000000000
+0 2 2 2 up: 0 0 to 2 2 at most 1000000000000000
+0 2 2 2 down: 2 2 to 0 0 at most 1000000000000000
+";
+
+const AT_WINDOW: &str = "0 1 1 2 up: 0 0 to 1 2 at most 1000000000000000
+0 1 1 2 down: 1 2 to 0 0 at most 1000000000000000
+0 2 2 2 up: 0 0 to 2 2 at most 1000000000000000
+0 2 2 2 down: 2 2 to 0 0 at most 1000000000000000
+1 1 2 2 up: 1 2 to 2 2 at most 10
+1 1 2 2 down: 2 2 to 1 2 at most 10
+";
+
+const MISSING: &str = "0 1 1 2 up: 0 0 to 1 2 at most 1000000000000000
+0 1 1 2 down: 1 2 to 0 0 at most 1000000000000000
+0 3 3 2 up: 0 0 to 3 2 at most 1000000000000000
+0 3 3 2 down: 3 2 to 0 0 at most 1000000000000000
+1 1 3 2 up: 1 2 to 3 2 at most 2
+1 1 3 2 down: 3 2 to 1 2 at most 2
+";
+
+const EACH_PAIR: &str = "0 1 1 2 up: 0 0 to 1 2 at most 1000000000000000
+0 1 1 2 down: 1 2 to 0 0 at most 1000000000000000
+0 2 2 2 up: 0 0 to 2 2 at most 1000000000000000
+0 2 2 2 down: 2 2 to 0 0 at most 1000000000000000
+0 3 3 2 up: 0 0 to 3 2 at most 1000000000000000
+0 3 3 2 down: 3 2 to 0 0 at most 1000000000000000
+0 4 4 2 up: 0 0 to 4 2 at most 1000000000000000
+0 4 4 2 down: 4 2 to 0 0 at most 1000000000000000
+1 1 2 2 up: 1 2 to 2 2 at most 2
+1 1 2 2 down: 2 2 to 1 2 at most 1
+1 1 3 2 up: 1 2 to 3 2 at most 4
+1 1 3 2 down: 3 2 to 1 2 at most 2
+1 2 3 2 up: 2 2 to 3 2 at most 2
+1 2 3 2 down: 3 2 to 2 2 at most 1
+1 3 4 2 up: 3 2 to 4 2 at most 4
+1 3 4 2 down: 4 2 to 3 2 at most 2
+";
+
+const SWINGS: &str = "0 1 1 2 up: 0 0 to 1 2 at most 1000000000000000
+0 1 1 2 down: 1 2 to 0 0 at most 1000000000000000
+0 2 2 2 up: 0 0 to 2 2 at most 1000000000000000
+0 2 2 2 down: 2 2 to 0 0 at most 1000000000000000
+0 3 3 2 up: 0 0 to 3 2 at most 1000000000000000
+0 3 3 2 down: 3 2 to 0 0 at most 1000000000000000
+1 1 2 2 up: 1 2 to 2 2 at most 5
+1 1 2 2 down: 2 2 to 1 2 at most 5
+1 1 3 2 up: 1 2 to 3 2 at most 5
+1 1 3 2 down: 3 2 to 1 2 at most 5
+1 2 3 2 up: 2 2 to 3 2 at most 5
+1 2 3 2 down: 3 2 to 2 2 at most 5
+";
+
+const DRIFTS: &str = "0 1 1 2 up: 0 0 to 1 2 at most 1000000000000000
+0 1 1 2 down: 1 2 to 0 0 at most 1000000000000000
+0 2 2 2 up: 0 0 to 2 2 at most 1000000000000000
+0 2 2 2 down: 2 2 to 0 0 at most 1000000000000000
+0 3 3 2 up: 0 0 to 3 2 at most 1000000000000000
+0 3 3 2 down: 3 2 to 0 0 at most 1000000000000000
+1 1 3 2 up: 1 2 to 3 2 at most 1
+1 1 3 2 down: 3 2 to 1 2 at most 1
+";
+
+const TWO_BOUNDS: &str = "0 1 1 2 up: 0 0 to 1 2 at most 1000000000000000
+0 1 1 2 down: 1 2 to 0 0 at most 1000000000000000
+0 1 1 4 up: 0 0 to 1 4 at most 1000000000000000
+0 1 1 4 down: 1 4 to 0 0 at most 1000000000000000
+0 2 2 4 up: 0 0 to 2 4 at most 1000000000000000
+0 2 2 4 down: 2 4 to 0 0 at most 1000000000000000
+0 3 3 2 up: 0 0 to 3 2 at most 1000000000000000
+0 3 3 2 down: 3 2 to 0 0 at most 1000000000000000
+0 3 3 4 up: 0 0 to 3 4 at most 1000000000000000
+0 3 3 4 down: 3 4 to 0 0 at most 1000000000000000
+1 2 2 4 up: 0 0 to 2 4 at most 50
+1 2 2 4 down: 2 4 to 0 0 at most -3
+1 3 3 4 up: 0 0 to 3 4 at most 50
+1 3 3 4 down: 3 4 to 0 0 at most -3
+2 3 3 2 up: 0 0 to 3 2 at most 8
+2 3 3 2 down: 3 2 to 0 0 at most -8
+5 1 1 2 up: 1 2 to 1 4 at most 5
+5 1 1 2 down: 1 4 to 1 2 at most 2
+5 3 3 2 up: 3 2 to 3 4 at most 5
+5 3 3 2 down: 3 4 to 3 2 at most 2
+";
+
+/// Rules, readings, and the bounds that are made.
+const MADE: [(&str, &str, &str); 10] = [
+    (SPEED, "time,x\n", ""),
+    (SPEED, "time,x\n0,10\n1,11\n2,12\n", STEADY),
+    (SPEED, "time,x\n0,0\n11,100\n", APART),
+    (SPEED, "time,x\n0,0\n10,100\n", AT_WINDOW),
+    (SPEED, "time,x\n0,0\n1,\n2,2\n", MISSING),
+    (SPEED, "time,x\n0,0\n1,NaN\n2,2\n", MISSING),
+    (PRICED, "time,x\n0,1\n1,2\n2,3\n4,4\n", EACH_PAIR),
+    (SWING, "time,x\n0,0\n5,4\n10,8\n", SWINGS),
+    (DRIFT, "time,x\n0,0\n5,5\n10,9\n", DRIFTS),
+    (TWO, ROWS, TWO_BOUNDS),
+];
+
+/// The place of an end.
+fn place_of(end: End) -> Place {
+    match end {
+        End::Zero => Place { row: 0, col: 0 },
+        End::At(place) => place,
+    }
 }
 
-/// One of the two bounds.
-fn bound(both: Both, side: Side) -> Bound {
-    let (rule, from_row, to_row, col, other, up, down) = both;
-    let place = Place { row: from_row, col };
-    let end = Place {
-        row: to_row,
-        col: other,
+/// Both ends and the limit of a bound.
+fn ends_text(alloc: Global, bound: &Bound) -> Result<String, Fail> {
+    let first = place_of(bound.first);
+    let second = place_of(bound.second);
+    let limit = bound.limit;
+    Ok(format!(in alloc;
+        "{} {} to {} {} at most {limit}\n",
+        first.row, first.col, second.row, second.col
+    )?)
+}
+
+/// The name of a bound.
+fn name_text(alloc: Global, name: BoundName) -> Result<String, Fail> {
+    let side = match name.side {
+        Side::Up => "up",
+        Side::Down => "down",
     };
-    let (low, high) = if other == 0 {
-        (End::Zero, End::At(place))
-    } else {
-        (End::At(place), End::At(end))
-    };
-    let name = BoundName {
-        rule,
-        from_row,
-        to_row,
-        col,
-        side,
-    };
-    let (first, second, limit) = match side {
-        Side::Up => (low, high, up),
-        Side::Down => (high, low, down),
-    };
-    Bound {
-        name,
-        first,
-        second,
-        limit,
+    Ok(format!(in alloc;
+        "{} {} {} {} {side}: ",
+        name.rule, name.from_row, name.to_row, name.col
+    )?)
+}
+
+/// The bounds as lines.
+fn lines_of(alloc: Global, bounds: &[Bound]) -> Result<Vec<u8>, Fail> {
+    let mut text = Vec::new(alloc);
+    for bound in bounds {
+        text.extend_from_slice(name_text(alloc, bound.name)?.as_bytes())?;
+        text.extend_from_slice(ends_text(alloc, bound)?.as_bytes())?;
     }
+    Ok(text)
 }
 
 /// Rules and a table that they read.
@@ -129,93 +273,77 @@ fn read(alloc: Global, rules: &str, readings: &[u8]) -> Result<(Rules, Table), F
     Ok((rules, table))
 }
 
+/// Each of the bounds is found by its name.
+fn finds(rt: &impl Abort, table: &Table, rules: &Rules, bounds: &[Bound]) {
+    for bound in bounds {
+        assert_eq!(rt; bound_of(table, rules, bound.name), Some(*bound));
+    }
+}
+
 /// The rules make these bounds of the readings, and each is found by its name.
 fn makes(
     rt: &impl Abort,
     alloc: Global,
     rules: &str,
     readings: &str,
-    wanted: &[Both],
+    wanted: &str,
 ) -> Result<(), Fail> {
     let (rules, table) = read(alloc, rules, readings.as_bytes())?;
     let bounds = make(alloc, &table, &rules)?;
-    assert_eq!(rt; bounds.len(), 2 * wanted.len());
-    for (both, made) in wanted.iter().zip(bounds.as_slice().chunks(2)) {
-        let up = bound(*both, Side::Up);
-        let down = bound(*both, Side::Down);
-        assert_eq!(rt; made, [up, down].as_slice());
-        assert_eq!(rt; bound_of(&table, &rules, up.name), Some(up));
-        assert_eq!(rt; bound_of(&table, &rules, down.name), Some(down));
+    let lines = lines_of(alloc, bounds.as_slice())?;
+    assert_eq!(rt; lines.as_slice(), wanted.as_bytes());
+    finds(rt, &table, &rules, bounds.as_slice());
+    Ok(())
+}
+
+#[test]
+fn bounds_of_rules(rt: HostRuntime) -> Result<(), Fail> {
+    for (rules, readings, wanted) in MADE {
+        makes(&rt, rt.alloc(), rules, readings, wanted)?;
     }
     Ok(())
 }
 
-/// The bounds of rule 1 on the readings of column 2 in two rows.
-const fn pair(from: u32, to: u32, up: i64, down: i64) -> Both {
-    (1, from, to, 2, 2, up, down)
+/// Names under the speed rule: rule, rows, column, and whether a bound bears it.
+type Named = (u32, u32, u32, u32, bool);
+
+const NAMED: [Named; 15] = [
+    (0, 1, 2, 2, false),
+    (0, 2, 2, 2, true),
+    (0, 3, 3, 2, false),
+    (0, 2, 2, 1, false),
+    (0, 5, 5, 2, false),
+    (0, 0, 0, 2, false),
+    (1, 1, 2, 2, true),
+    (1, 2, 1, 2, false),
+    (1, 1, 1, 2, false),
+    (1, 1, 3, 2, false),
+    (1, 1, 4, 2, false),
+    (1, 1, 2, 1, false),
+    (1, 1, 2, 3, false),
+    (2, 1, 2, 2, false),
+    (4_294_967_295, 1, 2, 2, false),
+];
+
+/// Whether there is a bound up of this name.
+fn is_bound(table: &Table, rules: &Rules, rule: u32, rows: (u32, u32), col: u32) -> bool {
+    let name = BoundName {
+        rule,
+        from_row: rows.0,
+        to_row: rows.1,
+        col,
+        side: Side::Up,
+    };
+    bound_of(table, rules, name).is_some()
 }
 
 #[test]
-fn bounds_of_neighbours(rt: HostRuntime) -> Result<(), Fail> {
-    let alloc = rt.alloc();
-    makes(&rt, alloc, SPEED, "time,x\n", &[])?;
-    let steady = [
-        sized(1, 2),
-        sized(2, 2),
-        sized(3, 2),
-        pair(1, 2, 1, 1),
-        pair(2, 3, 1, 1),
-    ];
-    makes(&rt, alloc, SPEED, "time,x\n0,10\n1,11\n2,12\n", &steady)?;
-    let apart = [sized(1, 2), sized(2, 2)];
-    makes(&rt, alloc, SPEED, "time,x\n0,0\n11,100\n", &apart)?;
-    let at_window = [sized(1, 2), sized(2, 2), pair(1, 2, 10, 10)];
-    makes(&rt, alloc, SPEED, "time,x\n0,0\n10,100\n", &at_window)?;
-    let missing = [sized(1, 2), sized(3, 2), pair(1, 3, 2, 2)];
-    makes(&rt, alloc, SPEED, "time,x\n0,0\n1,\n2,2\n", &missing)?;
-    makes(&rt, alloc, SPEED, "time,x\n0,0\n1,NaN\n2,2\n", &missing)?;
+fn names_of_no_bound(rt: HostRuntime) -> Result<(), Fail> {
+    let (rules, table) = read(rt.alloc(), SPEED, b"time,x\n0,0\n1,5\n2,\n12,3\n")?;
+    for (rule, from, to, col, there) in NAMED {
+        assert_eq!(rt; is_bound(&table, &rules, rule, (from, to), col), there);
+    }
     Ok(())
-}
-
-#[test]
-fn bounds_of_each_kind(rt: HostRuntime) -> Result<(), Fail> {
-    let alloc = rt.alloc();
-    let priced = [
-        sized(1, 2),
-        sized(2, 2),
-        sized(3, 2),
-        sized(4, 2),
-        pair(1, 2, 2, 1),
-        pair(1, 3, 4, 2),
-        pair(2, 3, 2, 1),
-        pair(3, 4, 4, 2),
-    ];
-    makes(&rt, alloc, PRICED, "time,x\n0,1\n1,2\n2,3\n4,4\n", &priced)?;
-    let swings = [
-        sized(1, 2),
-        sized(2, 2),
-        sized(3, 2),
-        pair(1, 2, 5, 5),
-        pair(1, 3, 5, 5),
-        pair(2, 3, 5, 5),
-    ];
-    makes(&rt, alloc, SWING, "time,x\n0,0\n5,4\n10,8\n", &swings)?;
-    let drifts = [sized(1, 2), sized(2, 2), sized(3, 2), pair(1, 3, 1, 1)];
-    makes(&rt, alloc, DRIFT, "time,x\n0,0\n5,5\n10,9\n", &drifts)?;
-    let both = [
-        sized(1, 2),
-        sized(1, 4),
-        sized(2, 4),
-        sized(3, 2),
-        sized(3, 4),
-        (1, 2, 2, 4, 0, 50, -3),
-        (1, 3, 3, 4, 0, 50, -3),
-        (2, 3, 3, 2, 0, 8, -8),
-        (5, 1, 1, 2, 4, 5, 2),
-        (5, 3, 3, 2, 4, 5, 2),
-    ];
-    let readings = "time,out,note,in\n0,10,a,20\n1,,b,30\n2,8,,9\n";
-    makes(&rt, alloc, TWO, readings, &both)
 }
 
 /// The reading of `x` in each second, the same in all rows.
@@ -227,109 +355,124 @@ fn still(alloc: Global, rows: u32) -> Result<Vec<u8>, Fail> {
     Ok(text)
 }
 
+/// How many bounds are made, or none where there are too many.
+fn count_made(alloc: Global, rules: &str, rows: u32) -> Result<Option<usize>, Fail> {
+    let (rules, table) = read(alloc, rules, still(alloc, rows)?.as_slice())?;
+    match make(alloc, &table, &rules) {
+        Ok(bounds) => Ok(Some(bounds.len())),
+        Err(MakeFault::TooManyBounds) => Ok(None),
+        Err(fault) => Err(fault.into()),
+    }
+}
+
+const COUNTS: [(&str, u32, Option<usize>); 5] = [
+    (MINUTE, 3_600, Some(14_398)),
+    (LONG, 5_000, Some(19_998)),
+    (ALL, 1_999, Some(3_998_000)),
+    (ALL, 2_000, None),
+    (ALL, 50_000, None),
+];
+
 #[test]
 fn numbers_of_bounds(rt: HostRuntime) -> Result<(), Fail> {
-    let alloc = rt.alloc();
-    let minute =
-        "[format]\ndecimals = 2\n[[speed]]\nsensor = \"x\"\nmin = \"-0.05\"\nmax = \"0.05\"\nwindow = 60\n";
-    let (rules, table) = read(alloc, minute, still(alloc, 3_600)?.as_slice())?;
-    assert_eq!(rt; make(alloc, &table, &rules)?.len(), 14_398);
-    let mut pairs = 0;
-    for from_row in 1..3_601 {
-        for to_row in from_row + 1..from_row + 62 {
-            let name = BoundName {
-                rule: 1,
-                from_row,
-                to_row,
-                col: 2,
-                side: Side::Up,
-            };
-            if bound_of(&table, &rules, name).is_some() {
-                pairs += 1;
-            }
-        }
+    for (rules, rows, wanted) in COUNTS {
+        assert_eq!(rt; count_made(rt.alloc(), rules, rows)?, wanted);
     }
-    assert_eq!(rt; 2 * (pairs + 3_600), 435_540);
-    let long =
-        "[format]\ndecimals = 0\n[[speed]]\nsensor = \"x\"\nmin = -1\nmax = 1\nwindow = 100000\n";
-    let (rules, table) = read(alloc, long, still(alloc, 5_000)?.as_slice())?;
-    assert_eq!(rt; make(alloc, &table, &rules)?.len(), 19_998);
-    let all = "[format]\ndecimals = 0\n[[swing]]\nsensor = \"x\"\nmost = 1\nwindow = 100000\n";
-    let (rules, table) = read(alloc, all, still(alloc, 1_999)?.as_slice())?;
-    assert_eq!(rt; make(alloc, &table, &rules)?.len(), 3_998_000);
-    for rows in [2_000, 50_000] {
-        let (rules, table) = read(alloc, all, still(alloc, rows)?.as_slice())?;
-        assert!(rt; matches!(make(alloc, &table, &rules), Err(MakeFault::TooManyBounds)));
+    Ok(())
+}
+
+/// How many bounds up a rule has on a row and later ones.
+fn count_from(table: &Table, rules: &Rules, from: u32) -> usize {
+    let mut count: usize = 0;
+    for to in from..from.saturating_add(62) {
+        count = count.saturating_add(usize::from(is_bound(table, rules, 1, (from, to), 2)));
+    }
+    count
+}
+
+#[test]
+fn names_of_all_pairs(rt: HostRuntime) -> Result<(), Fail> {
+    let alloc = rt.alloc();
+    let (rules, table) = read(alloc, MINUTE, still(alloc, 3_600)?.as_slice())?;
+    let mut count: usize = 3_600;
+    for from in 1..3_601 {
+        count = count.saturating_add(count_from(&table, &rules, from));
+    }
+    assert_eq!(rt; count, 217_770);
+    Ok(())
+}
+
+/// Values of a series, its change, what it pays, and the rule, the row and the side of the first bound that is broken.
+type Cost = ([i64; 5], i128, i128, Option<(u32, u32, Side)>);
+
+const COSTS: [Cost; 5] = [
+    ([10, 20, 30, 8, 9], 0, 20, None),
+    ([15, 20, 30, 8, 9], 5, 0, None),
+    ([15, 20, 51, 8, 9], 152, 0, Some((1, 2, Side::Up))),
+    ([10, 21, 30, 7, 2], 55, 36, Some((1, 3, Side::Down))),
+    ([10, 20, 30, 7, 9], 1, 20, Some((2, 3, Side::Down))),
+];
+
+/// A series costs and breaks what is wanted.
+fn costs(
+    rt: &impl Abort,
+    table: &Table,
+    rules: &Rules,
+    bounds: &BoundList,
+    series: &Series,
+    cost: &Cost,
+)
+    requires { length bounds.now ≤ MOST_BOUNDS }
+{
+    assert_eq!(rt; series.len(), table.len() as usize);
+    assert_eq!(rt; change_of(table, rules, series), cost.1);
+    assert_eq!(rt; paid_of(table, rules, bounds, series), cost.2);
+    assert_eq!(rt;
+        cost_of(table, rules, bounds, series),
+        cost.1.saturating_add(cost.2)
+    );
+    let broken = match first_broken(table, rules, bounds, series) {
+        Some(name) => Some((name.rule, name.from_row, name.side)),
+        None => None,
+    };
+    assert_eq!(rt; broken, cost.3);
+}
+
+/// Each series costs and breaks what is wanted.
+fn all_cost(
+    rt: &impl Abort,
+    alloc: Global,
+    table: &Table,
+    rules: &Rules,
+    bounds: &BoundList,
+) -> Result<(), Fail>
+    requires { length bounds.now ≤ MOST_BOUNDS }
+{
+    for cost in &COSTS {
+        let series = Series::from_slice(alloc, &cost.0)?;
+        costs(rt, table, rules, bounds, &series, cost);
     }
     Ok(())
 }
 
 #[test]
-fn names_of_no_bound(rt: HostRuntime) -> Result<(), Fail> {
+fn costs_of_series(rt: HostRuntime) -> Result<(), Fail> {
     let alloc = rt.alloc();
-    let readings = b"time,x\n0,0\n1,5\n2,\n12,3\n";
-    let (rules, table) = read(alloc, SPEED, readings)?;
-    let cases = [
-        (0, 1, 2, 2, false),
-        (0, 2, 2, 2, true),
-        (0, 3, 3, 2, false),
-        (0, 2, 2, 1, false),
-        (0, 5, 5, 2, false),
-        (0, 0, 0, 2, false),
-        (1, 1, 2, 2, true),
-        (1, 2, 1, 2, false),
-        (1, 1, 1, 2, false),
-        (1, 1, 3, 2, false),
-        (1, 1, 4, 2, false),
-        (1, 1, 2, 1, false),
-        (1, 1, 2, 3, false),
-        (2, 1, 2, 2, false),
-        (4_294_967_295, 1, 2, 2, false),
-    ];
-    for (rule, from_row, to_row, col, there) in cases {
-        for side in [Side::Up, Side::Down] {
-            let name = BoundName {
-                rule,
-                from_row,
-                to_row,
-                col,
-                side,
-            };
-            assert_eq!(rt; bound_of(&table, &rules, name).is_some(), there);
-        }
-    }
-    Ok(())
-}
-
-#[test]
-fn weights_and_costs(rt: HostRuntime) -> Result<(), Fail> {
-    let alloc = rt.alloc();
-    let readings = b"time,out,note,in\n0,10,a,20\n1,,b,30\n2,8,,9\n";
-    let (rules, table) = read(alloc, TWO, readings)?;
-    for (i, weight) in [1, 5, 7, 1, 7].iter().enumerate() {
-        assert_eq!(rt; weight_of(&table, &rules, i as u32), *weight);
-    }
-    for (rule, price) in [0, 0, 0, 0, 0, 4, 0].iter().enumerate() {
-        assert_eq!(rt; price_of(&rules, rule as u32), *price);
-    }
+    let (rules, table) = read(alloc, TWO, ROWS.as_bytes())?;
     let bounds = make(alloc, &table, &rules)?;
-    let cases: [([i64; 5], i128, i128, Option<(u32, u32, Side)>); 5] = [
-        ([10, 20, 30, 8, 9], 0, 20, None),
-        ([15, 20, 30, 8, 9], 5, 0, None),
-        ([15, 20, 51, 8, 9], 152, 0, Some((1, 2, Side::Up))),
-        ([10, 21, 30, 7, 2], 55, 36, Some((1, 3, Side::Down))),
-        ([10, 20, 30, 7, 9], 1, 20, Some((2, 3, Side::Down))),
-    ];
-    for (values, change, paid, broken) in cases {
-        let series = Series::from_slice(alloc, &values)?;
-        assert_eq!(rt; change_of(&table, &rules, &series), change);
-        assert_eq!(rt; paid_of(&table, &rules, &bounds, &series), paid);
-        assert_eq!(rt; cost_of(&table, &rules, &bounds, &series), change + paid);
-        let found = first_broken(&table, &rules, &bounds, &series);
-        assert_eq!(rt;
-            found.map(|name| (name.rule, name.from_row, name.side)),
-            broken
-        );
+    all_cost(&rt, alloc, &table, &rules, &bounds)
+}
+
+#[test]
+fn weights_and_prices(rt: HostRuntime) -> Result<(), Fail> {
+    let (rules, table) = read(rt.alloc(), TWO, ROWS.as_bytes())?;
+    assert_eq!(rt; table.len(), 5);
+    for (i, weight) in [(0, 1), (1, 5), (2, 7), (3, 1), (4, 7)] {
+        assert!(rt; i < table.len());
+        assert_eq!(rt; weight_of(&table, &rules, i), weight);
+    }
+    for (rule, price) in [(0, 0), (1, 0), (2, 0), (3, 0), (4, 0), (5, 4), (6, 0)] {
+        assert_eq!(rt; price_of(&rules, rule), price);
     }
     Ok(())
 }

@@ -125,7 +125,13 @@ fn push_in_time(
     ensures { OnOk result (bounds.new ≡ bounds.old ++ (if is_within limits.from limits.to stamp.ticks then value_bounds number (place_in col stamp) limits.least limits.most else [])) }
 {
     if covers(limits, stamp) {
-        push_value(bounds, number, place_in(col, stamp), limits.least, limits.most)?;
+        push_value(
+            bounds,
+            number,
+            place_in(col, stamp),
+            limits.least,
+            limits.most,
+        )?;
     }
     Ok(())
 }

@@ -63,7 +63,13 @@ fn weight_in(header: &Header, rules: &Rules, row: &Row, col: u32) -> u32
     ensures { result ≡ weight_of (with_columns 1 (rules_in_order rules.now) header.now.sensor_cols) col row.now.ticks }
 {
     let ticks = row.ticks();
-    last_weight(header, rules.weights.as_slice(), before_weights(rules), col, ticks)
+    last_weight(
+        header,
+        rules.weights.as_slice(),
+        before_weights(rules),
+        col,
+        ticks,
+    )
 }
 
 /// The weight of the reading with this number, counted from 0: that of the weight rule with the greatest number that covers

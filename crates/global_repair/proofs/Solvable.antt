@@ -23,7 +23,7 @@ use Rattle.bound_maker.specs.Laws.{NamesAreDistinct, AreAPart}
 use Rattle.bound_maker.specs.declared.maker.TheConstants.{MOST_BOUNDS}
 use Rattle.least_cost.specs.Problems.{AreSolvable, problem_of}
 use Rattle.global_repair.specs.Lists.{prices_of}
-use Rattle.global_repair.specs.Sound.{IsSound}
+use Rattle.bound_maker.specs.Sound.{IsSound}
 
 -- ---- two bounds without a price keep each reading in its range
 

@@ -4,12 +4,13 @@ ghost use Rattle.bound_maker.specs.declared.maker.TheConstants.{MOST_BOUNDS};
 ghost use Rattle.bound_maker.specs.Bounds.{made_bounds};
 ghost use Rattle.bound_maker.specs.Costs.{made_problem, whole_problem};
 ghost use Rattle.least_cost.specs.Answer.{Answers, CountsChanges};
-ghost use Rattle.global_repair.specs.Sound.{IsSound};
 ghost use Rattle.global_repair.specs.declared.fault.RepairFault.TheVariants.{Memory};
 
 use crate::fault::RepairFault;
 use crate::lists::{prices, weights};
-use bound_maker::{best_over_made, made_bind_all, made_is_a_part, make, names_are_distinct};
+use bound_maker::{
+    best_over_made, made_bind_all, made_is_a_part, make, names_are_distinct, problem_is_sound,
+};
 use flow_core::Solver;
 use least_cost::{Outcome, Problem, least_cost};
 use rule_file::Rules;
@@ -29,7 +30,6 @@ pub fn repair<V: Solver>(
     rules: &Rules,
     solver: &mut V,
 ) -> Result<Outcome, RepairFault>
-    requires { IsSound rules.now table.now }
     // Over all bounds: the greatest of the series that cost least, with a flow that shows it; or a cycle that forbids all.
     ensures answer { IfOk result (Answers (whole_problem rules.now table.now)) }
     // The flow is over the bounds that are made, and so are the changes counted.
@@ -44,6 +44,7 @@ pub fn repair<V: Solver>(
     names_are_distinct(table, rules);
     made_bind_all(table, rules);
     best_over_made(table, rules);
+    problem_is_sound(table, rules);
     let places = table.places();
     let bounds = make(alloc, table, rules)?;
     let weights = weights(alloc, table, rules)?;

@@ -1,7 +1,4 @@
-use Rattle.std.proofs.Common.{ℕ, sym, subst}
 use Rattle.rule_file.specs.Numbers.{seen_rule}
-use Rattle.bound_maker.specs.Bounds.{bounds_of_kind}
-use Rattle.bound_maker.specs.Named.{Finds, each_pair}
 use Rattle.bound_maker.proofs.Lookups.{kind_elsewhere}
 use Rattle.bound_maker.proofs.name.bound_in_column.Goals as goal
 

@@ -1,4 +1,4 @@
-use Rattle.std.proofs.Common.{refl, arith}
+use Rattle.std.proofs.Common.{refl}
 use Rattle.series_csv.specs.Readings.{places}
 use Rattle.bound_maker.proofs.Found.{contains_at}
 use Rattle.bound_maker.proofs.Lookups.{no_size_of_two, no_size_there, size_found}

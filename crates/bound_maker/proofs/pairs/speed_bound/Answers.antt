@@ -1,4 +1,4 @@
-use Rattle.std.proofs.Common.{rules, ◌≡◌, true, ℤ, pos, FitsSigned, to_z, of_z, arith, refl, sym, ◌∙◌, ap, subst}
+use Rattle.std.proofs.Common.{rules, pos, FitsSigned, to_z, of_z, arith, refl, sym, ◌∙◌, ap, subst}
 use Rattle.std.specs.Int.{w64, w128}
 use Rattle.std.proofs.lemmas.Int.{ints, to_z-of_z}
 use Rattle.fix_point.specs.RateLimits.{RateLimits, AreWithinReach}

@@ -16,5 +16,5 @@ pub returns-in-Some : goal.returns-in-Some
 returns-in-Some c =
     let rules = c.args.rules.now in
     subst (λ (place : ℕ). MatchOption c.ruled_from.result (rule_of rules c.args.number ≡ None)
-        (λ (ruled : Ruled). IsRuled rules c.args.header.now.sensor_cols c.args.number place (seen_rule ruled.rule) ruled.number ruled.col ruled.second))
+    (λ (ruled : Ruled). IsRuled rules c.args.header.now.sensor_cols c.args.number place (seen_rule ruled.rule) ruled.number ruled.col ruled.second))
     (index_is rules c.args.number c.in-Some.place c.in-Some.ensures) c.ruled_from.ensures

@@ -1,4 +1,4 @@
-use Rattle.std.proofs.Common.{◌∙◌, ap, sym, arith, length}
+use Rattle.std.proofs.Common.{◌∙◌, ap, arith, length}
 use Rattle.std.specs.Prelude.{List}
 use Rattle.rule_file.specs.Numbers.{rules_in_order}
 use Rattle.series_rows.specs.declared.cell.RowReading.{RowReading}

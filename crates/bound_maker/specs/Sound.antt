@@ -1,5 +1,5 @@
--- stand-in until the law stands below
-use Rattle.std.specs.Prelude.{◌≡◌, ◌≤◌, ◌*◌, ◌^◌, ℕ, length, unsigned_abs}
+-- To be believed: what holds of the problem that is made: of its ends, its limits, its weights and its prices.
+use Rattle.std.specs.Prelude.{◌≡◌, ℕ, ◌*◌, ◌^◌, ◌≤◌, unsigned_abs, length}
 use Rattle.std.specs.List.{AllByRecursion}
 use Rattle.screen_model.specs.Obeys.{HasEnds}
 use Rattle.rule_file.specs.declared.rules.Rules.{Rules}
@@ -8,6 +8,8 @@ use Rattle.series_csv.specs.Readings.{places}
 use Rattle.bound_maker.specs.Bounds.{made_bounds, price_of_number}
 use Rattle.bound_maker.specs.Costs.{weights}
 
+-- Both ends of each bound that is made are Zero or readings, and no limit is too great; there is a weight for each reading;
+-- and no weight and no price is too great.
 pub record IsSound (rules : Rules) (table : TableView) : Type 0 where
   pub ends : AllByRecursion (HasEnds (places table)) (made_bounds rules table)
   pub limits : AllByRecursion (λ bound. unsigned_abs bound.limit ≤ 4 * 10 ^ 15) (made_bounds rules table)
