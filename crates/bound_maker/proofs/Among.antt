@@ -55,7 +55,7 @@ none_of_rules d rows name ruled others =
     (all_weaker (λ (r : Ruled). r.number ≢ name.rule) (λ (r : Ruled). HasNone (bounds_of_rule each_pair d rows r) name)
     (λ r other. other_number r.number (bounds_of_rule each_pair d rows r) name other (kind_rule d rows r.number (col_of r) (second_col_of r) r.rule)) ruled others)
 
-numbers_below : (most n : ℕ) (rules : List Rule) (cols : List ℕ) → n + length rules ≤ most → AllByRecursion (λ (r : Ruled). r.number < most) (with_columns n rules cols)
+pub numbers_below : (most n : ℕ) (rules : List Rule) (cols : List ℕ) → n + length rules ≤ most → AllByRecursion (λ (r : Ruled). r.number < most) (with_columns n rules cols)
 numbers_below most n [] cols h = tt
 numbers_below most n (rule ∷ rules) cols h = (omega (arith, h), numbers_below most (suc n) rules (drop (length (sensor_names rule)) cols) (omega (arith, h)))
 

@@ -1,4 +1,5 @@
 pub mod Among
+pub mod Ascending
 pub mod Binding
 pub mod Chains
 pub mod Changes
@@ -26,3 +27,4 @@ pub mod Steps
 pub mod Weighing
 pub mod Weights
 pub mod Windows
+pub mod Writing

@@ -109,7 +109,7 @@ found_as table r col row value t v at is time same =
 
 -- ---- the bounds of one reading
 
-each_reading : {P : Reading → Type 0} → ((reading : Reading) → P reading) → (readings : List Reading) → AllByRecursion P readings
+pub each_reading : {P : Reading → Type 0} → ((reading : Reading) → P reading) → (readings : List Reading) → AllByRecursion P readings
 each_reading each [] = tt
 each_reading each (reading ∷ readings) = (each reading, each_reading each readings)
 
@@ -204,10 +204,10 @@ module _ (from to : ℤ) (least most : ℤ → ℤ) (name : BoundName) where
 
 -- ---- the bounds of rule 0
 
-abbrev size_on : Place → Side → Option Bound
+abbrev pub size_on : Place → Side → Option Bound
 size_on place side = Some (value_bound 0 place (limit_on side (neg_ℤ MOST_UNITS) MOST_UNITS) side)
 
-size_name : (place : Place) (side : Side) (b : Bound) → size_on place side ≡ Some b → b.name ≡ named_so 0 place.row place.row place.col side
+pub size_name : (place : Place) (side : Side) (b : Bound) → size_on place side ≡ Some b → b.name ≡ named_so 0 place.row place.row place.col side
 size_name place side b is =
     let same : value_bound 0 place (limit_on side (neg_ℤ MOST_UNITS) MOST_UNITS) side ≡ b = cc in
     ap (λ (c : Bound). c.name) (sym same) ∙ value_named 0 place (limit_on side (neg_ℤ MOST_UNITS) MOST_UNITS) side
@@ -271,7 +271,7 @@ module _ (number : ℕ) (rule : BetweenRule) where
   of_columns n (Some p) None side bound is = absurd (none_is_some bound is)
   of_columns n None q side bound is = absurd (none_is_some bound is)
 
-  row_named : (n first second : ℕ) (row : RowView) (side : Side) (bound : Bound) → between_bound number rule n (col_if_read first row) (col_if_read second row) side ≡ Some bound → bound.name ≡ named_so number n n first side
+  pub row_named : (n first second : ℕ) (row : RowView) (side : Side) (bound : Bound) → between_bound number rule n (col_if_read first row) (col_if_read second row) side ≡ Some bound → bound.name ≡ named_so number n n first side
   row_named n first second row side bound is =
       let of = of_columns n (col_if_read first row) (col_if_read second row) side bound is in
       let same = if_some (is_some (reading_in first row)) first of.0 of.1 in
@@ -314,7 +314,7 @@ rows_other number n first second rule (row ∷ rows) name other =
     (λ side b is same. other (ap (λ (m : BoundName). m.col) (sym (row_named number rule n first second row side b is) ∙ same))))
     (rows_other number (suc n) first second rule rows name other)
 
-each_pair_of : {P : Reading × Reading → Type 0} → ((pair : Reading × Reading) → P pair) → (pairs : List (Reading × Reading)) → AllByRecursion P pairs
+pub each_pair_of : {P : Reading × Reading → Type 0} → ((pair : Reading × Reading) → P pair) → (pairs : List (Reading × Reading)) → AllByRecursion P pairs
 each_pair_of each [] = tt
 each_pair_of each (pair ∷ pairs) = (each pair, each_pair_of each pairs)
 

@@ -1,8 +1,9 @@
--- Both ends of each bound that is made are Zero or readings, and its limit is at most 4·10^15 in size.
+-- Both ends of each bound are Zero or readings, and its limit is at most 4·10^15 in size.
 use Rattle.std.proofs.Common.{◌≡◌, ℕ, suc, ◌≤◌, ◌^◌, ℤ, pos, neg_ℤ, Bool, true, false, cond, List, [], ◌∷◌, drop, length, Option, Some, None, refl, subst, arith}
-use Rattle.std.specs.Prelude.{Contains, is_some, option_to_list, unsigned_abs, ◌==◌}
+use Rattle.std.specs.Prelude.{Contains, is_some, option_to_list, unsigned_abs}
 use Rattle.std.specs.List.{AllByRecursion, flat_map}
 use Rattle.words.proofs.Lists.{all_append, all_weaker, contains_first}
+use Rattle.words.proofs.Parts.{part_all}
 use Rattle.fix_point.specs.declared.scale.TheConstants.{MOST_UNITS}
 use Rattle.screen_model.specs.declared.bound.Bound.{Bound}
 use Rattle.screen_model.specs.declared.bound.Side.{Side}
@@ -21,16 +22,18 @@ use Rattle.series_rows.specs.Row.{RowView, columns}
 use Rattle.series_csv.specs.File.{TableView}
 use Rattle.series_csv.specs.Readings.{IsSmall, places, places_from, places_in, values}
 use Rattle.bound_maker.specs.declared.reading.Reading.{Reading}
-use Rattle.bound_maker.specs.Bounds.{Ruled, both_sides, bounds_in_rows, bounds_in_time, bounds_of_kind, bounds_of_pairs, bounds_of_rule, col_if_read, col_of, made_bounds, made_pairs, second_col_of, size_bounds, speed_bound, value_bound, value_bounds, with_columns}
+use Rattle.bound_maker.specs.Bounds.{Ruled, both_sides, bounds_in_rows, bounds_in_time, bounds_of_kind, bounds_of_pairs, bounds_of_rule, all_bounds, col_if_read, col_of, second_col_of, size_bounds, speed_bound, value_bound, value_bounds, with_columns}
+use Rattle.bound_maker.specs.Named.{each_pair}
 use Rattle.bound_maker.specs.Pairs.{IsBounded}
-use Rattle.bound_maker.specs.Readings.{all_pairs, neighbours, reading_in, readings_of}
+use Rattle.bound_maker.specs.Readings.{all_pairs, reading_in, readings_of}
 use Rattle.bound_maker.specs.Sound.{IsSound}
 use Rattle.bound_maker.proofs.Chains.{joined}
 use Rattle.bound_maker.proofs.Gathered.{readings_small}
 use Rattle.bound_maker.proofs.Named.{all_sides}
+use Rattle.bound_maker.proofs.Parts.{made_part}
 use Rattle.bound_maker.proofs.Reaches.{IsLimited, least_limited, most_limited, opposite_limited, sides_limited, small_limited, test_limited, units_limited}
 use Rattle.bound_maker.proofs.Rules.{all_bounded}
-use Rattle.bound_maker.proofs.Standing.{AreAmong, BothAre, Stands, all_stand, among_itself, later_among, neighbours_are, pairs_are, place_at, row_read_at}
+use Rattle.bound_maker.proofs.Standing.{AreAmong, BothAre, Stands, all_stand, among_itself, later_among, pairs_are, place_at, row_read_at}
 use Rattle.bound_maker.proofs.Weighing.{all_weighted, prices_most, weights_light}
 
 none_is_some : {A : Type 0} (x : A) → ◌≡◌ {A = Option A} None (Some x) → ⊥
@@ -51,10 +54,6 @@ when_test P false b holds = tt
 list_when : {B : Type 0} (P : B → Type 0) (t : Bool) (bs : List B) → AllByRecursion P bs → AllByRecursion P (cond t bs [])
 list_when P true bs all = all
 list_when P false bs all = tt
-
-choice_all : {A : Type 0} (P : A → Type 0) (t : Bool) (xs ys : List A) → AllByRecursion P xs → AllByRecursion P ys → AllByRecursion P (cond t xs ys)
-choice_all P true xs ys first second = first
-choice_all P false xs ys first second = second
 
 module _ (whole : List Place) where
   -- both ends are Zero or among the places, and the limit is not too great
@@ -164,12 +163,9 @@ record AreRows (whole : List Place) (rows : List RowView) : Type 0 where
   small : (col : ℕ) → AllByRecursion (λ (reading : Reading). unsigned_abs reading.value ≤ 10 ^ 15) (readings_of col rows)
 
 kind_sound : (whole : List Place) (d : ℕ) (rows : List RowView) (number col second : ℕ) (rule : Rule) → AreRows whole rows → IsBounded d rule
-    → AllByRecursion (SoundBound whole) (bounds_of_kind made_pairs d rows number col second rule)
+    → AllByRecursion (SoundBound whole) (bounds_of_kind each_pair d rows number col second rule)
 kind_sound whole d rows number col second (speed rule) are bounded =
-    let readings = readings_of col rows in
-    speed_sound whole number rule d col (made_pairs rule readings) bounded
-    (choice_all (BothAre (Stands whole col)) (rule.price == 0) (neighbours readings) (all_pairs readings)
-    (neighbours_are (Stands whole col) readings (are.stand col)) (pairs_are (Stands whole col) readings (are.stand col)))
+    speed_sound whole number rule d col (all_pairs (readings_of col rows)) bounded (pairs_are (Stands whole col) (readings_of col rows) (are.stand col))
 kind_sound whole d rows number col second (swing rule) are bounded =
     swing_sound whole number rule col (all_pairs (readings_of col rows)) (pairs_are (Stands whole col) (readings_of col rows) (are.stand col))
 kind_sound whole d rows number col second (drift rule) are bounded =
@@ -190,15 +186,15 @@ ruled_bounded : (d n : ℕ) (rules : List Rule) (cols : List ℕ) → AllByRecur
 ruled_bounded d n [] cols all = tt
 ruled_bounded d n (rule ∷ rules) cols all = (all.0, ruled_bounded d (suc n) rules (drop (length (sensor_names rule)) cols) all.1)
 
--- ---- the bounds that are made
+-- ---- all bounds
 
 all_own : (part whole : List Place) → AreAmong part whole → AllByRecursion (Contains whole) part
 all_own [] whole among = tt
 all_own (place ∷ part) whole among =
     (among.each place (contains_first place part), all_own part whole (later_among (place ∷ []) part whole among))
 
-made_sound : (rules : Rules) (table : TableView) → AllByRecursion IsSmall (values table) → AllByRecursion (SoundBound (places table)) (made_bounds rules table)
-made_sound rules table small =
+all_sound : (rules : Rules) (table : TableView) → AllByRecursion IsSmall (values table) → AllByRecursion (SoundBound (places table)) (all_bounds rules table)
+all_sound rules table small =
     let whole = places table in
     let d = rules.format.decimals in
     let ruled = with_columns 1 (rules_in_order rules) table.header.sensor_cols in
@@ -207,18 +203,22 @@ made_sound rules table small =
       stand = λ col. all_stand 1 col table.rows whole (among_itself whole);
       small = λ col. readings_small 1 col table.rows table.rows refl small;
     } in
-    all_append (SoundBound whole) (size_bounds whole) (flat_map (bounds_of_rule made_pairs d table.rows) ruled)
+    all_append (SoundBound whole) (size_bounds whole) (flat_map (bounds_of_rule each_pair d table.rows) ruled)
     (sizes_sound whole whole (all_own whole whole (among_itself whole)))
-    (flat_all (λ (r : Ruled). IsBounded d r.rule) (SoundBound whole) (bounds_of_rule made_pairs d table.rows)
+    (flat_all (λ (r : Ruled). IsBounded d r.rule) (SoundBound whole) (bounds_of_rule each_pair d table.rows)
     (λ r bounded. kind_sound whole d table.rows r.number (col_of r) (second_col_of r) r.rule are bounded)
     ruled (ruled_bounded d 1 (rules_in_order rules) table.header.sensor_cols (all_bounded rules)))
 
 pub is_sound : (rules : Rules) (table : TableView) → AllByRecursion IsSmall (values table) → IsSound rules table
 is_sound rules table small =
-    let all = made_sound rules table small in
+    let all = all_sound rules table small in
+    let ends = all_weaker (SoundBound (places table)) (HasEnds (places table)) (λ bound h. h.0) (all_bounds rules table) all in
+    let limits = all_weaker (SoundBound (places table)) (λ (bound : Bound). IsLimited bound.limit) (λ bound h. h.1) (all_bounds rules table) all in
     record {
-      ends = all_weaker (SoundBound (places table)) (HasEnds (places table)) (λ bound h. h.0) (made_bounds rules table) all;
-      limits = all_weaker (SoundBound (places table)) (λ (bound : Bound). IsLimited bound.limit) (λ bound h. h.1) (made_bounds rules table) all;
+      ends = part_all (HasEnds (places table)) (made_part rules table) ends;
+      limits = part_all (λ (bound : Bound). IsLimited bound.limit) (made_part rules table) limits;
+      all_ends = ends;
+      all_limits = limits;
       weighted = all_weighted rules table;
       weights = weights_light rules table;
       prices = prices_most rules;

@@ -3,7 +3,7 @@
 use Rattle.std.specs.Prelude.{◌≡◌, ℤ, List, map}
 use Rattle.words.specs.Lists.{Distinct, IsPart}
 use Rattle.screen_model.specs.Best.{IsBest}
-use Rattle.screen_model.specs.Cost.{cost}
+use Rattle.screen_model.specs.Cost.{cost, paid}
 use Rattle.screen_model.specs.Obeys.{Obeys}
 use Rattle.screen_model.specs.Parts.{IsExtended, bounds_with_price}
 use Rattle.rule_file.specs.declared.rules.Rules.{Rules}
@@ -28,5 +28,6 @@ MadeBindAll rules table = (series : List ℤ) → Obeys (places table) series (m
 -- It costs and pays over those that are made what it does over all; and what is best over those is best over all.
 pub record BestOverMade (rules : Rules) (table : TableView) : Type 0 where
   pub costs : (series : List ℤ) → cost (made_problem rules table) series ≡ cost (whole_problem rules table) series
+  pub pays : (series : List ℤ) → paid (made_problem rules table) series ≡ paid (whole_problem rules table) series
   pub best : (series flow extended : List ℤ) → IsExtended (made_problem rules table).bounds flow (whole_problem rules table).bounds extended
       → IsBest (made_problem rules table) series flow → IsBest (whole_problem rules table) series extended

@@ -10,3 +10,4 @@ pub mod Ruled
 pub mod Sound
 pub mod Weighed
 pub mod Windows
+pub mod Written

@@ -122,7 +122,7 @@ fn first_broken_of(
 }
 
 /// The name of the first bound of the list that has no price and that the series does not obey; `None` exactly where there
-/// is none. It takes no memory.
+/// is none. A value that is missing, as of a place where no reading is, counts as 0. It takes no memory.
 pub fn first_broken(
     table: &Table,
     rules: &Rules,
@@ -167,7 +167,8 @@ fn paid_for(table: &Table, rules: &Rules, bounds: &[Bound], series: &Series) -> 
     paid
 }
 
-/// What a series pays for the bounds of the list that it breaks: the price of each for each unit. It takes no memory.
+/// What a series pays for the bounds of the list that it breaks: the price of each for each unit. A value that is missing, as
+/// of a place where no reading is, counts as 0. It takes no memory.
 pub fn paid_of(table: &Table, rules: &Rules, bounds: &BoundList, series: &Series) -> i128
     requires { length bounds.now ≤ MOST_BOUNDS }
     ensures { result ≡ pos (paid (problem_with rules.now table.now bounds.now) series.now) }

@@ -29,7 +29,7 @@ pub fn made_bind_all(table: &Table, rules: &Rules)
     let _rows = table.all_rows();
 }
 
-/// Over the bounds that are made a series costs what it costs over all, and what is best over those is best over all.
+/// Over the bounds that are made a series costs and pays what it does over all, and what is best over those is best over all.
 pub fn best_over_made(table: &Table, rules: &Rules)
     ensures { BestOverMade rules.now table.now }
 {

@@ -20,6 +20,7 @@ mod tests;
 mod values;
 mod weight;
 mod window;
+mod written;
 
 pub use cost::{cost_of, first_broken, paid_of, price_of};
 pub use laws::{best_over_made, made_bind_all, made_is_a_part, names_are_distinct};
@@ -27,3 +28,4 @@ pub use maker::{MOST_BOUNDS, MakeFault, make};
 pub use name::bound_of;
 pub use sound::problem_is_sound;
 pub use weight::{change_of, weight_of};
+pub use written::names_can_be_written;

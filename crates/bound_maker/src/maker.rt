@@ -46,6 +46,8 @@ impl From<AllocError> for MakeFault {
 /// The bounds that the rules make of the table, in their order: by rule, then by the earlier and by the later row, then by
 /// column, and up before down. Of a speed rule without a price these are the bounds on neighbouring readings alone.
 ///
+/// The table is one that was read by these rules; a rule whose sensor has no column in the table makes no bound.
+///
 /// It takes the time of going over the rows once for each rule, and of the bounds. Where there are too many, none is made.
 ///
 /// # Errors

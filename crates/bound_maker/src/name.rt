@@ -21,7 +21,8 @@ use screen_model::{Bound, BoundName, Place, Side};
 use series_csv::Table;
 
 /// The bound with this name among all, of a speed rule also among those on readings that are no neighbours; `None` exactly
-/// where there is none. It looks at no more than two rows, and takes no memory.
+/// where there is none. The table is one that was read by these rules; a rule whose sensor has no column in the table has no
+/// bound. It looks at no more than two rows, and takes no memory.
 pub fn bound_of(table: &Table, rules: &Rules, name: BoundName) -> Option<Bound>
     ensures { MatchOption result (¬ Contains (map (λ bound. bound.name) (all_bounds rules.now table.now)) name)
         (λ bound. Contains (all_bounds rules.now table.now) bound × (bound.name ≡ name)) }

@@ -73,7 +73,8 @@ fn weight_in(header: &Header, rules: &Rules, row: &Row, col: u32) -> u32
 }
 
 /// The weight of the reading with this number, counted from 0: that of the weight rule with the greatest number that covers
-/// its sensor and time, and 1 where none does. It takes no memory.
+/// its sensor and time, and 1 where none does. The table is one that was read by these rules; a rule whose sensor has no
+/// column in the table covers no reading. It takes no memory.
 pub fn weight_of(table: &Table, rules: &Rules, i: u32) -> u32
     requires { i < length (values table.now) }
     ensures { slice_get (weights rules.now table.now) i ≡ Some result }
