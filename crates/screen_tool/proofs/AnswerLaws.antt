@@ -86,7 +86,7 @@ module _ (Counts : Problem → Found → Type 0) where
 
   table_any : (rules : Rules) (table : TableView) (answer : Answer) → AnswersTableBy Counts rules table answer → AnswersTableBy (λ problem outcome. Unit {0}) rules table answer
   table_any rules table answer (inl p) = inl p
-  table_any rules table answer (inr p) = inr (p.0, p.1.0, p.1.1, tt, p.1.3)
+  table_any rules table answer (inr p) = inr (p.0, (p.1.0, p.1.1, tt, p.1.3))
 
   global_any : (bytes : Inputs (List ℕ)) (answer : Answer) → AnswersGlobalBy Counts bytes answer → AnswersGlobal bytes answer
   global_any bytes answer =
@@ -178,5 +178,6 @@ rests (Some Global) came bytes answer p fronts = global_rests Any came bytes ans
 rests None came bytes answer p fronts = p
 
 -- there is one command
-pub of_global : (command : Command) (P : IsAnswerTo → Type 0) → P AnswersGlobal → P (Answers (Some command))
-of_global Global P p = p
+pub of_global : (Counts : Problem → Found → Type 0) (command : Command) (P : IsAnswerTo → IsAnswerTo → Type 0)
+    → P (AnswersGlobalBy Counts) AnswersGlobal → P (AnswersBy Counts (Some command)) (Answers (Some command))
+of_global Counts Global P p = p

@@ -65,7 +65,7 @@ module _ {K : Type 0} (held : K → Option (List ℕ)) (sink_faults : K → ℕ)
 
 module _ (rules : Rules) (table : TableView) where
   -- what the certificate of a repair shows
-  shows_repair : (series : List ℤ) (flow : List FlowItem) (total broken : ℤ) (changes : ℕ) → IsFoundFor rules table (found.Repaired series flow total broken changes)
+  abbrev shows_repair : (series : List ℤ) (flow : List FlowItem) (total broken : ℤ) (changes : ℕ) → IsFoundFor rules table (found.Repaired series flow total broken changes)
       → ShowsRepair rules table (text_of_cert (cert_of rules table (found.Repaired series flow total broken changes))) (table_text rules table series)
   shows_repair series flow total broken changes is =
       let sets = sets_of (places table) (values table) series in

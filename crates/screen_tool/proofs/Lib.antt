@@ -5,4 +5,5 @@ pub mod Changed
 pub mod Written
 pub mod Steps
 pub mod Due
-pub mod Decided
+pub mod Found
+mod Decided

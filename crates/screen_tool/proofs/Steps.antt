@@ -265,4 +265,4 @@ repair_fails Counts found table repair.Memory many = tt
 pub repair_comes : (Counts : Problem → Found → Type 0) (rules : Rules) (table : TableView) (outcome : Found) (reply : Reply)
     → length (made_bounds rules table) ≤ MOST_BOUNDS → IsFoundFor rules table outcome → Counts (made_problem rules table) outcome → IsReplyOf (answer_of rules table outcome) reply
     → Comes (AnswersTableBy Counts rules table) (Ok reply)
-repair_comes Counts rules table outcome reply few is counts texts = (answer_of rules table outcome, texts, inr (few, outcome, is, counts, refl))
+repair_comes Counts rules table outcome reply few is counts texts = (answer_of rules table outcome, texts, inr (few, (outcome, is, counts, refl)))

@@ -35,6 +35,7 @@ use Rattle.screen_model.specs.Order.{Rises, is_before, item_key, name_key, place
 use Rattle.series_csv.specs.File.{TableView}
 use Rattle.series_csv.specs.Readings.{AreInOrder, IsBefore, places, values}
 use Rattle.screen_tool.specs.Certificates.{cert_of, has_price, sets_of}
+use Rattle.screen_tool.specs.Global.{IsFoundFor}
 
 -- ---- lists that rise
 
@@ -113,7 +114,7 @@ names_are rules [] = refl
 names_are rules (bound ∷ bounds) = ap (λ names. bound.name ∷ names) (names_are rules bounds)
 
 is_name : (name : BoundName) → IsWritableName name → IsName name
-is_name name w = record { rule = w.rule; from_least = w.from_least; from_most = w.from_most; to_least = w.to_least; to_most = w.to_most; col_least = w.col_least; col_most = w.col_most }
+is_name name w = record { rule = w.rule; from_least = w.from.0; from_most = w.from.1; to_least = w.to.0; to_most = w.to.1; col_least = w.col.0; col_most = w.col.1 }
 
 -- what is named can be written
 named_writable : (rules : Rules) (table : TableView) (names : List BoundName) → CanBeWritten rules table → AreNamesIn (whole_problem rules table).bounds names → AllByRecursion IsName names
@@ -165,17 +166,17 @@ sets_ordered (place ∷ places) (value ∷ values) (x ∷ series) order =
     (sets_ordered places values series order.1)
 
 is_set : (place : Place) (x : ℤ) → IsWritablePlace place → unsigned_abs x ≤ 10 ^ 15 → IsSet (record { place = place; value = x })
-is_set place x w small = (record { row_least = w.row_least; row_most = w.row_most; col_least = w.col_least; col_most = w.col_most }, omega (arith, small))
+is_set place x w small = (record { row_least = w.row.0; row_most = w.row.1; col_least = w.col.0; col_most = w.col.1 }, omega (arith, small))
 
 -- ---- the flow lines
+
+sum_step : (most x n rest whole : ℕ) → x ≤ most → rest ≤ most * n → whole ≡ x + rest → whole ≤ most * suc n
+sum_step most x n rest whole p q e = let more : most * suc n ≡ most * n + most = grind arith in omega (arith, p, q, e, more)
 
 -- what numbers that are at most one number add up to
 sum_most : (most : ℕ) (xs : List ℕ) → AllByRecursion (λ x. x ≤ most) xs → sum xs ≤ most * length xs
 sum_most most [] all = omega arith
 sum_most most (x ∷ xs) all = sum_step most x (length xs) (sum xs) (sum (x ∷ xs)) all.0 (sum_most most xs all.1) (sum_by-cons (λ (y : ℕ). y) x xs)
-
-sum_step : (most x n rest whole : ℕ) → x ≤ most → rest ≤ most * n → whole ≡ x + rest → whole ≤ most * suc n
-sum_step most x n rest whole p q e = let more : most * suc n ≡ most * n + most = grind arith in omega (arith, p, q, e, more)
 
 within : (most n limit whole : ℕ) → whole ≤ most * n → n ≤ limit → most ≡ 1000 → whole ≤ 1000 * limit
 within most n limit whole p q e = let same : whole ≤ 1000 * n = subst (λ (m : ℕ). whole ≤ m * n) e p in omega (arith, same, q)
@@ -231,7 +232,7 @@ cycle_some : (rules : Rules) (table : TableView) (cycle : List BoundName) → Is
 cycle_some rules table [] blocked = blocked.blocked.some
 cycle_some rules table (name ∷ names) blocked = omega arith
 
-pub written : (rules : Rules) (table : TableView) (outcome : Outcome)
+written : (rules : Rules) (table : TableView) (outcome : Outcome)
     → CanBeWritten rules table → IsSound rules table → AreInOrder (places table) → length (places table) ≤ MOST_READINGS → length (made_bounds rules table) ≤ MOST_BOUNDS
     → Answers (whole_problem rules table) outcome → Answers (made_problem rules table) outcome → HasText (cert_of rules table outcome)
 written rules table (found.Repaired series flow total broken changes) can sound order few_readings few_bounds whole made =
@@ -241,3 +242,9 @@ written rules table (found.Repaired series flow total broken changes) can sound 
     (lists_written rules table series flow total broken can sound order few_readings few_bounds whole made)
 written rules table (found.NoSeries cycle) can sound order few_readings few_bounds whole made =
     (cycle_some rules table cycle whole.blocked, named_writable rules table cycle can whole.blocked.named)
+
+pub found_for : (rules : Rules) (table : TableView) (outcome : Outcome)
+    → CanBeWritten rules table → IsSound rules table → AreInOrder (places table) → length (places table) ≤ MOST_READINGS → length (made_bounds rules table) ≤ MOST_BOUNDS
+    → Answers (whole_problem rules table) outcome → Answers (made_problem rules table) outcome → IsFoundFor rules table outcome
+found_for rules table outcome can sound order few_readings few_bounds whole made =
+    record { whole = whole; made = made; text = written rules table outcome can sound order few_readings few_bounds whole made }

@@ -3,6 +3,7 @@ ghost use Rattle.std.specs.Prelude.{◌≡◌, [], ◌++◌, length, IfOk, OnOk}
 ghost use Rattle.cert_format.specs.declared.cert.SetLine.{SetLine};
 ghost use Rattle.series_csv.specs.Readings.{places, values};
 ghost use Rattle.screen_tool.specs.Certificates.{cert_of, repair_cert, sets_of, with_set};
+ghost use Rattle.screen_tool.specs.Global.{IsFoundFor};
 
 use crate::prices::has_price;
 use cert_format::{Cert, SetLine, SetList};
@@ -19,6 +20,7 @@ pub(crate) fn cert_of(
     table: &Table,
     found: Outcome,
 ) -> Result<Cert, AllocError>
+    requires { IsFoundFor rules.now table.now found }
     ensures { IfOk result (λ cert. cert ≡ cert_of rules.now table.now found) }
 {
     match found {

@@ -58,10 +58,11 @@ fn reply_over<V: Solver>(
     ensures no_done { result ≢ Err (Ending.Ended Outcome.Done) }
     ensures most_stays { V.most solver.new ≡ V.most solver.old }
 {
-    // The laws that show that the certificate has a text; they do nothing.
+    // What shows that the certificate has a text; it does nothing.
     problem_is_sound(table, rules);
     names_can_be_written(table, rules);
     let _places = table.places();
+    let _len = table.len();
     let found = repair(alloc, table, rules, solver)?;
     let reply = reply_of(alloc, rules, table, found)?;
     Ok(reply)
