@@ -26,17 +26,16 @@ use Rattle.screen_tool.specs.declared.ends.Inputs.{Inputs}
 use Rattle.screen_tool.specs.declared.ends.Outputs.{Outputs}
 use Rattle.screen_tool.specs.declared.status.Ending.{Ending}
 use Rattle.screen_tool.specs.declared.status.Ending.TheVariants as ending
-use Rattle.screen_tool.specs.declared.status.Outcome.{Outcome}
 use Rattle.screen_tool.specs.declared.status.Outcome.TheVariants as outcome
 use Rattle.screen_tool.specs.declared.status.Status.{Status}
 use Rattle.screen_tool.specs.declared.status.Status.TheVariants as status
-use Rattle.screen_tool.specs.Answer.{Extent, Whole, Answer}
+use Rattle.screen_tool.specs.Answer.{Answer}
 use Rattle.screen_tool.specs.Certificates.{cert_of, repair_cert, sets_of}
 use Rattle.screen_tool.specs.Command.{roles_of}
 use Rattle.screen_tool.specs.Ending.{outcome_status, status_of}
-use Rattle.screen_tool.specs.Files.{RulesAreOne, ReadingsAreOne, AfterReadings, HasFewBounds, rules_too_long, rules_refused, readings_too_long, readings_refused}
+use Rattle.screen_tool.specs.Files.{RulesAreOne, ReadingsAreOne, AfterReadings, rules_too_long, rules_refused, readings_too_long, readings_refused}
 use Rattle.screen_tool.specs.Global.{AnswersGlobal, AnswersGlobalBy, AnswersTableBy, AnswersBoundsBy, IsFoundFor, answer_of}
-use Rattle.screen_tool.specs.Headline.{CountsReadFault, CountsWriteFault, Decides, HasSolved, Headline, IsApartFromFaults, ShowsCycle, ShowsRepair, SomeObeys, WritesCycle, WritesRepair}
+use Rattle.screen_tool.specs.Headline.{CountsReadFault, CountsWriteFault, Headline, IsApartFromFaults, ShowsCycle, ShowsRepair, SomeObeys, WritesCycle, WritesRepair}
 use Rattle.screen_tool.specs.Performance.{IsAnswered, LeavesSinks, IsWritten, AreWritten, IsCut, AreCut, Performs, AreTold}
 use Rattle.screen_tool.proofs.AfterFile.{after_accepted}
 use Rattle.screen_tool.proofs.AnswerLaws.{any_answer, bounds_answer, global_has, global_rests}

@@ -1,12 +1,5 @@
 -- What is due, from what was performed.
-use Rattle.std.proofs.Common.{◌≡◌, ◌≢◌, inl, inr, ℕ, ◌≤◌, List, [], length, Option, Some, None, Ok, refl, sym, ap, subst, ◌∙◌}
-use Rattle.rule_file.specs.declared.rules.Rules.{Rules}
-use Rattle.rule_file.specs.declared.read.TheConstants.{LONGEST as longest_rules}
-use Rattle.rule_file.specs.File.{ReadsFile}
-use Rattle.series_csv.specs.File.{TableView, ReadsTable}
-use Rattle.series_csv.specs.declared.table.TheConstants.{LONGEST as longest_readings}
-use Rattle.screen_io.specs.Faults.{Rose}
-use Rattle.screen_io.specs.Sink.{Gains}
+use Rattle.std.proofs.Common.{◌≡◌, ◌≢◌, inl, inr, ℕ, List, Option, Some, None, refl, sym, ap, subst, ◌∙◌}
 use Rattle.screen_io.proofs.WholeReads.{taken_front, taken_whole}
 use Rattle.screen_tool.specs.declared.command.Command.{Command}
 use Rattle.screen_tool.specs.declared.command.Command.TheVariants.{Global}
@@ -16,14 +9,11 @@ use Rattle.screen_tool.specs.declared.ends.Inputs.{Inputs}
 use Rattle.screen_tool.specs.declared.ends.Outputs.{Outputs}
 use Rattle.screen_tool.specs.declared.status.Ending.{Ending}
 use Rattle.screen_tool.specs.declared.status.Ending.TheVariants as ending
-use Rattle.screen_tool.specs.declared.status.Outcome.TheVariants as outcome
-use Rattle.screen_tool.specs.declared.status.Status.TheVariants as status
 use Rattle.screen_tool.specs.Answer.{Extent, Whole, Begun, Unread, Answer, AreFront}
 use Rattle.screen_tool.specs.Answers.{Answers, OneOutcome, RestsOnRead}
 use Rattle.screen_tool.specs.Command.{roles_of}
 use Rattle.screen_tool.specs.Ending.{outcome_status, status_of}
-use Rattle.screen_tool.specs.Files.{RulesAreOne, ReadingsAreOne, AfterReadings, rules_too_long, rules_refused, readings_too_long, readings_refused}
-use Rattle.screen_tool.specs.Performance.{IsRead, IsAnswered, Stops, LeavesSinks, IsWritten, AreWritten, IsCut, AreCut, Performs, AreTold, IsDue}
+use Rattle.screen_tool.specs.Performance.{IsRead, IsAnswered, Performs, AreTold, IsDue}
 use Rattle.screen_tool.proofs.AnswerLaws.{found_reads, global_has}
 
 -- ---- what came of a source is the front of what it told

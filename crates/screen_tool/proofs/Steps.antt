@@ -1,5 +1,5 @@
 -- From the steps of a command to what it performs.
-use Rattle.std.proofs.Common.{◌≡◌, ◌≢◌, inl, inr, ℕ, ◌≤◌, ◌<◌, ◌↔◌, Bool, true, false, IsTrue, List, [], length, Option, Some, None, Result, Ok, Err, OnOk, OnErr, MatchResult, refl, sym, subst, ◌∙◌}
+use Rattle.std.proofs.Common.{◌≡◌, ◌≢◌, inl, inr, ℕ, ◌≤◌, ◌<◌, List, [], length, Option, Some, None, Result, Ok, Err, OnOk, OnErr, MatchResult, refl, sym, subst}
 use Rattle.global_repair.specs.declared.fault.RepairFault.{RepairFault}
 use Rattle.global_repair.specs.declared.fault.RepairFault.TheVariants as repair
 use Rattle.least_cost.specs.declared.outcome.Outcome.{Outcome as Found}
@@ -27,7 +27,7 @@ use Rattle.screen_tool.specs.declared.status.Ending.TheVariants as ending
 use Rattle.screen_tool.specs.declared.status.Outcome.TheVariants.{Done, Usage}
 use Rattle.screen_tool.specs.declared.step.StepFault.{StepFault}
 use Rattle.screen_tool.specs.declared.step.StepFault.TheVariants as fault
-use Rattle.screen_tool.specs.Answer.{Extent, Whole, Unread, Answer}
+use Rattle.screen_tool.specs.Answer.{Extent, Whole, Answer}
 use Rattle.screen_tool.specs.Answers.{Answers, AnswersBy, usage}
 use Rattle.screen_tool.specs.Files.{RulesAreOne, rules_too_long, rules_refused, readings_too_long, readings_refused, too_many_bounds}
 use Rattle.screen_tool.specs.Global.{AnswersGlobal, AnswersGlobalBy, AnswersTableBy, IsFoundFor, answer_of}

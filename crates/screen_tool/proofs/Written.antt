@@ -1,5 +1,5 @@
 -- The certificate of what was found has a text.
-use Rattle.std.proofs.Common.{◌≡◌, ◌≢◌, ◌⊎◌, inl, inr, ℕ, zero, suc, ◌+◌, ◌*◌, ◌^◌, ◌<◌, ◌≤◌, ℤ, pos, ◌≤ℤ◌, ◌==◌, ◌&&◌, ◌||◌, Bool, true, false, IsTrue, nat_lt, List, [], ◌∷◌, ◌++◌, length, map, sum, if◌then◌else◌, refl, sym, ap, subst, ◌∙◌, arith}
+use Rattle.std.proofs.Common.{◌≡◌, ◌⊎◌, inl, inr, ℕ, suc, ◌+◌, ◌*◌, ◌^◌, ◌<◌, ◌≤◌, ℤ, pos, ◌≤ℤ◌, ◌==◌, ◌&&◌, ◌||◌, Bool, true, false, IsTrue, nat_lt, List, [], ◌∷◌, length, map, sum, if◌then◌else◌, refl, sym, ap, subst, ◌∙◌, arith}
 use Rattle.std.specs.Prelude.{unsigned_abs, Contains}
 use Rattle.std.specs.Ordering.{int_eq}
 use Rattle.std.specs.List.{AllByRecursion}
@@ -7,7 +7,7 @@ use Rattle.std.proofs.lemmas.Bool.{and_from, eq-eqb, eqb-true, lt-ltb, ltb-true,
 use Rattle.std.proofs.lemmas.Int.{ints}
 use Rattle.std.proofs.lemmas.List.Sums.{sum_by-cons}
 use Rattle.words.specs.Lists.{IsPart, none, kept, left_out}
-use Rattle.words.proofs.Lists.{all_at, all_map, all_from_map, all_weaker}
+use Rattle.words.proofs.Lists.{all_at, all_weaker}
 use Rattle.bound_maker.specs.declared.maker.TheConstants.{MOST_BOUNDS}
 use Rattle.bound_maker.specs.Bounds.{all_bounds, made_bounds, price_of_number, priced}
 use Rattle.bound_maker.specs.Costs.{made_problem, weights, whole_problem}
@@ -16,7 +16,7 @@ use Rattle.bound_maker.specs.Written.{CanBeWritten, IsWritableName, IsWritablePl
 use Rattle.cert_format.specs.declared.cert.Cert.TheVariants as cert
 use Rattle.cert_format.specs.declared.cert.SetLine.{SetLine}
 use Rattle.cert_format.specs.Cert.{AreLists, HasText}
-use Rattle.cert_format.specs.Line.{IsItem, IsName, IsPlace, IsSet, IsTotal, IsValue}
+use Rattle.cert_format.specs.Line.{IsItem, IsName, IsSet, IsTotal}
 use Rattle.cert_format.specs.Order.{set_key}
 use Rattle.least_cost.specs.Answer.{Answers, IsRepaired}
 use Rattle.least_cost.specs.declared.outcome.Outcome.{Outcome}
@@ -28,10 +28,10 @@ use Rattle.screen_model.specs.declared.bound.FlowItem.{FlowItem}
 use Rattle.screen_model.specs.declared.limits.TheConstants.{MOST_READINGS}
 use Rattle.screen_model.specs.declared.place.Place.{Place}
 use Rattle.screen_model.specs.Best.{IsBlockedByNames}
-use Rattle.screen_model.specs.Cost.{cost, paid, change}
+use Rattle.screen_model.specs.Cost.{cost, paid}
 use Rattle.screen_model.specs.Names.{AreNamesIn, names_of}
 use Rattle.screen_model.specs.Obeys.{Priced}
-use Rattle.screen_model.specs.Order.{Rises, is_before, item_key, name_key, place_key}
+use Rattle.screen_model.specs.Order.{Rises, is_before, name_key, place_key}
 use Rattle.series_csv.specs.File.{TableView}
 use Rattle.series_csv.specs.Readings.{AreInOrder, IsBefore, places, values}
 use Rattle.screen_tool.specs.Certificates.{cert_of, has_price, sets_of}

@@ -1,4 +1,4 @@
-use Rattle.std.proofs.Common.{◌≡◌, ◌++◌, [], List, drop, pos, slice_index_or, sym, ap, ◌∙◌, rules, w64}
+use Rattle.std.proofs.Common.{◌++◌, List, drop, pos, slice_index_or, sym, ap, ◌∙◌, rules, w64}
 use Rattle.std.proofs.lemmas.Int.{to_z-of_z}
 use Rattle.std.proofs.lemmas.List.{append-nil, drop_all}
 use mir.Val.{SFits}

@@ -5,7 +5,7 @@ use Rattle.screen_tool.specs.declared.command.Command.TheVariants.{Global}
 use Rattle.screen_tool.specs.declared.status.Ending.TheVariants as ending
 use Rattle.screen_tool.specs.declared.status.Outcome.TheVariants as outcome
 use Rattle.screen_tool.specs.Answers.{Answers, AnswersBy}
-use Rattle.screen_tool.specs.Command.{command_of, roles_of, texts}
+use Rattle.screen_tool.specs.Command.{roles_of}
 use Rattle.screen_tool.specs.Ending.{status_of}
 use Rattle.screen_tool.specs.Note.{note_text}
 use Rattle.screen_tool.specs.Performance.{IsDue, Performs}
