@@ -1,6 +1,7 @@
 //! Repairs series of sensor readings that may change only so fast. See the library `screen_tool`.
 #![tactic(auto)]
 
+use path_flow::PathSolver;
 use screen_tool::{Status, real_ends, run};
 use std::alloc::AllocError;
 use std::env;
@@ -16,7 +17,9 @@ fn main(rt: HostRuntime) -> ExitCode {
 fn run_on<R: Runtime + AllocGlobal>(rt: &R) -> Result<u8, AllocError> {
     let words = words(rt)?;
     let (mut ins, mut outs) = real_ends(rt, words.as_slice())?;
-    Ok(run(rt.alloc(), words.as_slice(), &mut ins, &mut outs).code())
+    let mut solver = PathSolver::new(rt.alloc());
+    let status = run(rt.alloc(), words.as_slice(), &mut ins, &mut outs, &mut solver);
+    Ok(status.code())
 }
 
 /// The words after the program's name; none where one of them is no text.

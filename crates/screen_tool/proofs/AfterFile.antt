@@ -20,24 +20,25 @@ module _ {A F : Type 0} (longest : ℕ) (Reads : List ℕ → Result A F → Typ
   after_has P bytes Follows answer at_long at_refused at_value (inl p) = subst P (sym p.1) at_long
   after_has P bytes Follows answer at_long at_refused at_value (inr p) = found_has P Follows p.1 answer at_refused at_value p.3
 
-  -- two answers come to the same
-  found_one : (Follows : A → Answer → Type 0) → ((value : A) (one other : Answer) → Follows value one → Follows value other → one.outcome ≡ other.outcome)
+  -- two answers have a part that is the same
+  found_one : {B : Type 0} (part : Answer → B) (Follows : A → Answer → Type 0)
+      → ((value : A) (one other : Answer) → Follows value one → Follows value other → part one ≡ part other)
       → (found : Result A F) (one other : Answer)
       → MatchResult found (λ value. Follows value one) (λ fault. one ≡ refused fault)
-      → MatchResult found (λ value. Follows value other) (λ fault. other ≡ refused fault) → one.outcome ≡ other.outcome
-  found_one Follows follow (Ok value) one other p q = follow value one other p q
-  found_one Follows follow (Err fault) one other p q = ap (λ (a : Answer). a.outcome) (p ∙ sym q)
+      → MatchResult found (λ value. Follows value other) (λ fault. other ≡ refused fault) → part one ≡ part other
+  found_one part Follows follow (Ok value) one other p q = follow value one other p q
+  found_one part Follows follow (Err fault) one other p q = ap part (p ∙ sym q)
 
-  pub after_one : AreOne Reads → (bytes : List ℕ) (Follows : A → Answer → Type 0)
-      → ((value : A) (one other : Answer) → Follows value one → Follows value other → one.outcome ≡ other.outcome)
+  pub after_one : {B : Type 0} (part : Answer → B) → AreOne Reads → (bytes : List ℕ) (Follows : A → Answer → Type 0)
+      → ((value : A) (one other : Answer) → Follows value one → Follows value other → part one ≡ part other)
       → (one other : Answer) → AfterFile longest Reads too_long refused bytes Follows one → AfterFile longest Reads too_long refused bytes Follows other
-      → one.outcome ≡ other.outcome
-  after_one law bytes Follows follow one other (inl p) (inl q) = ap (λ (a : Answer). a.outcome) (p.1 ∙ sym q.1)
-  after_one law bytes Follows follow one other (inl p) (inr q) = absurd (more_and_not longest (length bytes) p.0 q.0)
-  after_one law bytes Follows follow one other (inr p) (inl q) = absurd (more_and_not longest (length bytes) q.0 p.0)
-  after_one law bytes Follows follow one other (inr p) (inr q) =
+      → part one ≡ part other
+  after_one part law bytes Follows follow one other (inl p) (inl q) = ap part (p.1 ∙ sym q.1)
+  after_one part law bytes Follows follow one other (inl p) (inr q) = absurd (more_and_not longest (length bytes) p.0 q.0)
+  after_one part law bytes Follows follow one other (inr p) (inl q) = absurd (more_and_not longest (length bytes) q.0 p.0)
+  after_one part law bytes Follows follow one other (inr p) (inr q) =
       let same : q.1 ≡ p.1 = law bytes q.1 p.1 q.2 p.2 in
-      found_one Follows follow p.1 one other p.3
+      found_one part Follows follow p.1 one other p.3
       (subst (λ (found : Result A F). MatchResult found (λ value. Follows value other) (λ fault. other ≡ refused fault)) same q.3)
 
   -- where the file is accepted the answer is one of those that follow
@@ -66,6 +67,12 @@ module _ {A F : Type 0} (longest : ℕ) (Reads : List ℕ → Result A F → Typ
       → MatchResult found (λ value. Next value answer) (λ fault. answer ≡ refused fault)
   found_follows Follows Next (Ok value) answer next p = next value p
   found_follows Follows Next (Err fault) answer next p = p
+
+  pub after_follows : (bytes : List ℕ) (Follows Next : A → Answer → Type 0) (answer : Answer)
+      → ((value : A) → Follows value answer → Next value answer)
+      → AfterFile longest Reads too_long refused bytes Follows answer → AfterFile longest Reads too_long refused bytes Next answer
+  after_follows bytes Follows Next answer next (inl p) = inl p
+  after_follows bytes Follows Next answer next (inr p) = inr (p.0, p.1, p.2, found_follows Follows Next p.1 answer next p.3)
 
   found_whole : (extent : Answer → Extent) (Follows : A → Answer → Type 0) (found : Result A F) (answer : Answer)
       → ((fault : F) → extent (refused fault) ≡ Whole) → ((value : A) → Follows value answer → extent answer ≡ Whole)

@@ -9,7 +9,7 @@ use Rattle.rule_file.specs.declared.rules.RangeRule.{RangeRule}
 use Rattle.rule_file.specs.declared.rules.Rules.{Rules}
 use Rattle.rule_file.specs.declared.rules.SpeedRule.{SpeedRule}
 use Rattle.rule_file.specs.declared.rules.SwingRule.{SwingRule}
-use Rattle.screen_tool.specs.Global.{has_price}
+use Rattle.screen_tool.specs.Certificates.{has_price}
 
 any_map : {X Y : Type 0} (test : Y → Bool) (f : X → Y) (xs : List X) → list_any test (map f xs) ≡ list_any (λ x. test (f x)) xs
 any_map test f [] = refl

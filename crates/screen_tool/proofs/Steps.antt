@@ -1,11 +1,11 @@
 -- From the steps of a command to what it performs.
-use Rattle.std.proofs.Common.{◌≡◌, ◌≢◌, inl, inr, ℕ, ◌≤◌, ◌<◌, ◌↔◌, Bool, true, false, IsTrue, List, [], length, Option, None, Result, Ok, Err, OnOk, OnErr, MatchResult, refl, sym, subst, ◌∙◌}
-use Rattle.std.specs.List.{AllByRecursion}
-use Rattle.std.proofs.lemmas.Bool.{false≢true}
-use Rattle.bound_maker.specs.declared.maker.MakeFault.{MakeFault}
-use Rattle.bound_maker.specs.declared.maker.MakeFault.TheVariants as bounds
+use Rattle.std.proofs.Common.{◌≡◌, ◌≢◌, inl, inr, ℕ, ◌≤◌, ◌<◌, List, [], length, Option, Some, None, Result, Ok, Err, OnOk, OnErr, MatchResult, refl, sym, subst}
+use Rattle.global_repair.specs.declared.fault.RepairFault.{RepairFault}
+use Rattle.global_repair.specs.declared.fault.RepairFault.TheVariants as repair
+use Rattle.least_cost.specs.declared.outcome.Outcome.{Outcome as Found}
 use Rattle.bound_maker.specs.declared.maker.TheConstants.{MOST_BOUNDS}
 use Rattle.bound_maker.specs.Bounds.{made_bounds}
+use Rattle.bound_maker.specs.Costs.{made_problem}
 use Rattle.rule_file.specs.File.{ReadsFile}
 use Rattle.rule_file.specs.declared.fault.RuleFault.{RuleFault}
 use Rattle.screen_io.specs.Faults.{Rose, HasCause}
@@ -13,28 +13,27 @@ use Rattle.screen_io.specs.Sink.{Gains, GainsPrefix}
 use Rattle.screen_io.specs.declared.source.Failed.{Failed}
 use Rattle.rule_file.specs.declared.read.TheConstants.{LONGEST as longest_rules}
 use Rattle.rule_file.specs.declared.rules.Rules.{Rules}
-use Rattle.screen_model.specs.declared.bound.Bound.{Bound}
-use Rattle.screen_model.specs.Obeys.{Keeps}
+use Rattle.screen_model.specs.Cost.{Problem}
 use Rattle.series_csv.specs.File.{TableView, ReadsTable}
-use Rattle.series_csv.specs.Readings.{places, values}
 use Rattle.series_csv.specs.declared.table.TheConstants.{LONGEST as longest_readings}
 use Rattle.series_rows.specs.declared.fault.TableFault.{TableFault}
 use Rattle.screen_tool.specs.declared.command.Command.{Command}
+use Rattle.screen_tool.specs.declared.command.Command.TheVariants.{Global}
 use Rattle.screen_tool.specs.declared.ends.Inputs.{Inputs}
 use Rattle.screen_tool.specs.declared.ends.Outputs.{Outputs}
 use Rattle.screen_tool.specs.declared.reply.Reply.{Reply}
 use Rattle.screen_tool.specs.declared.status.Ending.{Ending}
 use Rattle.screen_tool.specs.declared.status.Ending.TheVariants as ending
-use Rattle.screen_tool.specs.declared.status.Outcome.TheVariants.{Usage}
+use Rattle.screen_tool.specs.declared.status.Outcome.TheVariants.{Done, Usage}
 use Rattle.screen_tool.specs.declared.step.StepFault.{StepFault}
 use Rattle.screen_tool.specs.declared.step.StepFault.TheVariants as fault
-use Rattle.screen_tool.specs.Answer.{Extent, Whole, Unread, Answer}
-use Rattle.screen_tool.specs.Answers.{Answers, usage}
+use Rattle.screen_tool.specs.Answer.{Extent, Whole, Answer}
+use Rattle.screen_tool.specs.Answers.{Answers, AnswersBy, usage}
 use Rattle.screen_tool.specs.Files.{RulesAreOne, rules_too_long, rules_refused, readings_too_long, readings_refused, too_many_bounds}
-use Rattle.screen_tool.specs.Global.{AnswersGlobal, AnswersTable, ReadingsKeepAll, unchanged, needs_repair}
+use Rattle.screen_tool.specs.Global.{AnswersGlobal, AnswersGlobalBy, AnswersTableBy, IsFoundFor, answer_of}
 use Rattle.screen_tool.specs.Performance.{IsAnswerTo, IsRead, AreRead, IsAnswered, Stays, Stops, LeavesSinks, IsWritten, IsNoted, Performs}
-use Rattle.screen_tool.specs.Step.{Comes, IsFound, IsStopped, IsStep, WasRead, Ends, Replies, rules_ending, readings_ending, bounds_ending}
-use Rattle.screen_tool.proofs.AnswerLaws.{needs_rules, needs_readings, reads_both}
+use Rattle.screen_tool.specs.Step.{Comes, IsFound, IsReplyOf, IsStopped, IsStep, WasRead, Ends, Replies, rules_ending, readings_ending, repair_ending}
+use Rattle.screen_tool.proofs.AnswerLaws.{any_answer, needs_rules, needs_readings, reads_both}
 
 -- ---- a file that was read, and what was found in it
 
@@ -123,35 +122,68 @@ module _ {S : Type 0} (left : S → Option (List ℕ)) (source_faults : S → �
     (record { rules = []; readings = []; cert = [] }, subst (λ given. Answers given (record { rules = []; readings = []; cert = [] }) usage) (sym none) refl, (refl, refl, refl)),
   )
 
-  -- both files are accepted
-  pub table_answered : (ins : Inputs S) (rules readings : S) (found : Rules) (table : TableView) (answer : Answer)
-      → IsStep left source_faults longest_rules ReadsFile ins.rules rules (Ok found)
-      → IsStep left source_faults longest_readings (ReadsTable found) ins.readings readings (Ok table)
-      → answer.read ≡ record { rules = Whole; readings = Whole; cert = Unread } → AnswersTable found table answer
-      → IsAnswered left source_faults AnswersGlobal ins (record ins { rules = rules; readings = readings }) answer
-  table_answered ins rules readings found table answer q p extents given = (
-    record { rules = q.0; readings = p.0; cert = [] },
-    inr (q.2, Ok found, q.3, inr (p.2, Ok table, p.3, given)),
-    subst
-        (λ (read : Inputs Extent). AreRead left source_faults read ins (record ins { rules = rules; readings = readings }) (record { rules = q.0; readings = p.0; cert = [] }))
-        (sym extents) (q.1, p.1, refl),
-  )
+  module _ (Counts : Problem → Found → Type 0) where
+    -- both files are accepted
+    pub table_answered : (ins : Inputs S) (rules readings : S) (found : Rules) (table : TableView) (answer : Answer)
+        → IsStep left source_faults longest_rules ReadsFile ins.rules rules (Ok found)
+        → IsStep left source_faults longest_readings (ReadsTable found) ins.readings readings (Ok table)
+        → AnswersTableBy Counts found table answer
+        → IsAnswered left source_faults (AnswersGlobalBy Counts) ins (record ins { rules = rules; readings = readings }) answer
+    table_answered ins rules readings found table answer q p given = (
+      record { rules = q.0; readings = p.0; cert = [] },
+      inr (q.2, Ok found, q.3, inr (p.2, Ok table, p.3, given)),
+      subst
+          (λ (read : Inputs Extent). AreRead left source_faults read ins (record ins { rules = rules; readings = readings }) (record { rules = q.0; readings = p.0; cert = [] }))
+          (sym (reads_both Counts found table answer given)) (q.1, p.1, refl),
+    )
 
-  -- what comes of accepted files is what the command replies, or how it ends
-  pub table_comes : RulesAreOne → (ins : Inputs S) (rules readings : S) (found : Rules) (table : TableView) (given : Result Reply Ending)
-      → IsStep left source_faults longest_rules ReadsFile ins.rules rules (Ok found)
-      → IsStep left source_faults longest_readings (ReadsTable found) ins.readings readings (Ok table)
-      → Comes (AnswersTable found table) given
-      → MatchResult given
-      (Replies left source_faults AnswersGlobal ins (record ins { rules = rules; readings = readings }))
-      (Ends left source_faults AnswersGlobal ins (record ins { rules = rules; readings = readings }))
-  table_comes law ins rules readings found table (Ok reply) q p c =
-      (c.0, c.1, table_answered ins rules readings found table c.0 q p (reads_both found table c.0 c.2) c.2)
-  table_comes law ins rules readings found table (Err (ending.Ended outcome)) q p c =
-      (c.0, c.1, c.2, c.3, table_answered ins rules readings found table c.0 q p (reads_both found table c.0 c.4) c.4)
-  table_comes law ins rules readings found table (Err ending.ReadFault) q p c = absurd c
-  table_comes law ins rules readings found table (Err ending.WriteFault) q p c = absurd c
-  table_comes law ins rules readings found table (Err ending.Memory) q p c = texts_end law ins rules readings found table q p
+    any_answered : (ins now : Inputs S) (answer : Answer) → IsAnswered left source_faults (AnswersGlobalBy Counts) ins now answer → IsAnswered left source_faults AnswersGlobal ins now answer
+    any_answered ins now answer p = (p.0, any_answer Counts (Some Global) p.0 answer p.1, p.2)
+
+    -- what comes of accepted files is what the command replies, or how it ends
+    pub table_comes : RulesAreOne → (ins : Inputs S) (rules readings : S) (found : Rules) (table : TableView) (given : Result Reply Ending)
+        → IsStep left source_faults longest_rules ReadsFile ins.rules rules (Ok found)
+        → IsStep left source_faults longest_readings (ReadsTable found) ins.readings readings (Ok table)
+        → Comes (AnswersTableBy Counts found table) given
+        → MatchResult given
+        (Replies left source_faults (AnswersGlobalBy Counts) ins (record ins { rules = rules; readings = readings }))
+        (Ends left source_faults AnswersGlobal ins (record ins { rules = rules; readings = readings }))
+    table_comes law ins rules readings found table (Ok reply) q p c = (c.0, c.1, table_answered ins rules readings found table c.0 q p c.2)
+    table_comes law ins rules readings found table (Err (ending.Ended outcome)) q p c =
+        (c.0, c.1, c.2, c.3, any_answered ins (record ins { rules = rules; readings = readings }) c.0 (table_answered ins rules readings found table c.0 q p c.4))
+    table_comes law ins rules readings found table (Err ending.ReadFault) q p c = absurd c
+    table_comes law ins rules readings found table (Err ending.WriteFault) q p c = absurd c
+    table_comes law ins rules readings found table (Err ending.Memory) q p c = texts_end law ins rules readings found table q p
+
+    -- the reply of a command is one of its answers, whatever is counted
+    pub any_reply : (command : Option Command) (ins now : Inputs S) (reply : Reply) → Replies left source_faults (AnswersBy Counts command) ins now reply → Replies left source_faults (Answers command) ins now reply
+    any_reply command ins now reply p = (p.0, p.1, (p.2.0, any_answer Counts command p.2.0 p.0 p.2.1, p.2.2))
+
+  -- ---- a read that failed was counted
+
+  pub rules_counted : (ins : Inputs S) (rules : S) (given : StepFault RuleFault) → IsStep left source_faults longest_rules ReadsFile ins.rules rules (Err given)
+      → rules_ending given ≡ ending.ReadFault → Rose (source_faults ins.rules) (source_faults rules)
+  rules_counted ins rules fault.TooLong p e = absurd (cc e)
+  rules_counted ins rules (fault.Refused f) p e = absurd (cc e)
+  rules_counted ins rules fault.Failed p e = p.2
+  rules_counted ins rules fault.Memory p e = absurd (cc e)
+
+  pub readings_counted : (ins : Inputs S) (readings : S) (found : Rules) (given : StepFault TableFault)
+      → IsStep left source_faults longest_readings (ReadsTable found) ins.readings readings (Err given)
+      → readings_ending given ≡ ending.ReadFault → Rose (source_faults ins.readings) (source_faults readings)
+  readings_counted ins readings found fault.TooLong p e = absurd (cc e)
+  readings_counted ins readings found (fault.Refused f) p e = absurd (cc e)
+  readings_counted ins readings found fault.Failed p e = p.2
+  readings_counted ins readings found fault.Memory p e = absurd (cc e)
+
+  -- what comes of accepted files is no failed read
+  pub none_counted : (found : Rules) (table : TableView) (Counts : Problem → Found → Type 0) (given : Result Reply Ending)
+      → Comes (AnswersTableBy Counts found table) given → given ≢ Err ending.ReadFault
+  none_counted found table Counts (Ok reply) c e = cc
+  none_counted found table Counts (Err (ending.Ended outcome)) c e = cc
+  none_counted found table Counts (Err ending.ReadFault) c e = c
+  none_counted found table Counts (Err ending.WriteFault) c e = c
+  none_counted found table Counts (Err ending.Memory) c e = cc
 
 -- ---- what is written
 
@@ -184,7 +216,7 @@ module _ {K : Type 0} (held : K → Option (List ℕ)) (sink_faults : K → ℕ)
   noted note seen sink now (Ok x) same whole part cause unfailed = inl (subst (λ (t : List ℕ). Gains (held sink) t (held now)) same whole, unfailed)
   noted note seen sink now (Err e) same whole part cause unfailed = inr (subst (λ (t : List ℕ). GainsPrefix (held sink) t (held now)) same part, cause.failed)
 
--- ---- words that are no command are answered before
+-- ---- words that are no command are answered before, and no refusal is a success
 
 pub err_one : {A E : Type 0} {one other : E} → ◌≡◌ {A = Result A E} (Err one) (Err other) → one ≡ other
 err_one e = cc
@@ -195,38 +227,42 @@ rules_no_usage (fault.Refused f) e = cc
 rules_no_usage fault.Failed e = cc
 rules_no_usage fault.Memory e = cc
 
+pub rules_no_done : (given : StepFault RuleFault) → rules_ending given ≢ ending.Ended Done
+rules_no_done fault.TooLong e = cc
+rules_no_done (fault.Refused f) e = cc
+rules_no_done fault.Failed e = cc
+rules_no_done fault.Memory e = cc
+
 pub readings_no_usage : (given : StepFault TableFault) → readings_ending given ≢ ending.Ended Usage
 readings_no_usage fault.TooLong e = cc
 readings_no_usage (fault.Refused f) e = cc
 readings_no_usage fault.Failed e = cc
 readings_no_usage fault.Memory e = cc
 
-pub bounds_no_usage : (given : MakeFault) → bounds_ending given ≢ ending.Ended Usage
-bounds_no_usage bounds.TooManyBounds e = cc
-bounds_no_usage bounds.Memory e = cc
+pub readings_no_done : (given : StepFault TableFault) → readings_ending given ≢ ending.Ended Done
+readings_no_done fault.TooLong e = cc
+readings_no_done (fault.Refused f) e = cc
+readings_no_done fault.Failed e = cc
+readings_no_done fault.Memory e = cc
 
--- ---- the bounds that were made
+pub repair_no_usage : (given : RepairFault) → repair_ending given ≢ ending.Ended Usage
+repair_no_usage repair.TooManyBounds e = cc
+repair_no_usage repair.Memory e = cc
 
--- they are refused, or memory ran out as they were made
-pub bounds_come : (found : Rules) (table : TableView) (given : MakeFault) → (given ≢ bounds.Memory → MOST_BOUNDS < length (made_bounds found table))
-    → Comes (AnswersTable found table) (Err (bounds_ending given))
-bounds_come found table bounds.TooManyBounds many = (too_many_bounds, refl, refl, refl, inl (many (λ e. cc), refl))
-bounds_come found table bounds.Memory many = tt
+pub repair_no_done : (given : RepairFault) → repair_ending given ≢ ending.Ended Done
+repair_no_done repair.TooManyBounds e = cc
+repair_no_done repair.Memory e = cc
 
-abbrev Tests : Rules → TableView → List Bound → Bool → Type 0
-Tests found table made test = IsTrue test ↔ AllByRecursion (Keeps (places table) (values table)) made
+-- ---- the repair
 
--- the test of the bounds tells what is answered
-pub break_comes : (found : Rules) (table : TableView) (made : List Bound) (test : Bool) → made ≡ made_bounds found table → length made ≤ MOST_BOUNDS
-    → Tests found table made test → test ≡ false → AnswersTable found table needs_repair
-break_comes found table made test same few tests fails =
-    let breaks : ¬ ReadingsKeepAll found table =
-    λ kept. absurd (false≢true (sym fails ∙ tests.1 (subst (λ (b : List Bound). AllByRecursion (Keeps (places table) (values table)) b) (sym same) kept)))
-    in
-    inr (subst (λ (b : List Bound). length b ≤ MOST_BOUNDS) same few, inr (breaks, refl))
+-- the bounds are refused, or memory ran out
+pub repair_fails : (Counts : Problem → Found → Type 0) (found : Rules) (table : TableView) (given : RepairFault)
+    → (given ≢ repair.Memory → MOST_BOUNDS < length (made_bounds found table)) → Comes (AnswersTableBy Counts found table) (Err (repair_ending given))
+repair_fails Counts found table repair.TooManyBounds many = (too_many_bounds, refl, refl, refl, inl (many (λ e. cc), refl))
+repair_fails Counts found table repair.Memory many = tt
 
-pub keep_comes : (found : Rules) (table : TableView) (made : List Bound) (test : Bool) → made ≡ made_bounds found table → length made ≤ MOST_BOUNDS
-    → Tests found table made test → test ≡ true → AnswersTable found table (unchanged found table)
-keep_comes found table made test same few tests passes =
-    let keeps : ReadingsKeepAll found table = subst (λ (b : List Bound). AllByRecursion (Keeps (places table) (values table)) b) same (tests.0 passes) in
-    inr (subst (λ (b : List Bound). length b ≤ MOST_BOUNDS) same few, inl (keeps, refl))
+-- something was found, and is replied
+pub repair_comes : (Counts : Problem → Found → Type 0) (rules : Rules) (table : TableView) (outcome : Found) (reply : Reply)
+    → length (made_bounds rules table) ≤ MOST_BOUNDS → IsFoundFor rules table outcome → Counts (made_problem rules table) outcome → IsReplyOf (answer_of rules table outcome) reply
+    → Comes (AnswersTableBy Counts rules table) (Ok reply)
+repair_comes Counts rules table outcome reply few is counts texts = (answer_of rules table outcome, texts, inr (few, (outcome, is, counts, refl)))

@@ -1,26 +1,38 @@
 -- To be believed: what each command answers, and the laws of it.
 use Rattle.std.specs.Prelude.{◌≡◌, ℕ, List, Option, Some, None}
+use Rattle.least_cost.specs.declared.outcome.Outcome.{Outcome as Found}
+use Rattle.screen_model.specs.Cost.{Problem}
 use Rattle.screen_tool.specs.declared.command.Command.{Command}
 use Rattle.screen_tool.specs.declared.command.Command.TheVariants.{Global}
 use Rattle.screen_tool.specs.declared.ends.Inputs.{Inputs}
 use Rattle.screen_tool.specs.declared.status.Outcome.TheVariants.{Usage}
 use Rattle.screen_tool.specs.Answer.{Unread, Answer, AreFronts}
 use Rattle.screen_tool.specs.Files.{without_texts}
-use Rattle.screen_tool.specs.Global.{AnswersGlobal}
+use Rattle.screen_tool.specs.Global.{AnswersGlobalBy}
 
 -- Words that ask for no command are answered with the usage text, and nothing is read.
 abbrev pub usage : Answer
 usage = without_texts Usage Unread Unread
 
--- The command answers this to sources of these bytes.
+-- The command answers this to sources of these bytes. `Counts` is what is asked beside of a problem that is solved and of what
+-- was found for it.
+abbrev pub AnswersBy : (Problem → Found → Type 0) → Option Command → Inputs (List ℕ) → Answer → Type 0
+AnswersBy Counts (Some Global) bytes answer = AnswersGlobalBy Counts bytes answer
+AnswersBy Counts None bytes answer = answer ≡ usage
+
 abbrev pub Answers : Option Command → Inputs (List ℕ) → Answer → Type 0
-Answers (Some Global) bytes answer = AnswersGlobal bytes answer
-Answers None bytes answer = answer ≡ usage
+Answers = AnswersBy (λ problem found. Unit {0})
 
 -- A command comes to one outcome only, whatever text it may choose.
 abbrev pub OneOutcome : Type 0
 OneOutcome = (command : Option Command) (bytes : Inputs (List ℕ)) (one other : Answer)
     → Answers command bytes one → Answers command bytes other → one.outcome ≡ other.outcome
+
+-- The text that goes to the output is one only, too. So a repaired file is a function of the two files that it is made from,
+-- whatever flow is found.
+abbrev pub OneText : Type 0
+OneText = (command : Option Command) (bytes : Inputs (List ℕ)) (one other : Answer)
+    → Answers command bytes one → Answers command bytes other → one.out ≡ other.out
 
 -- An answer rests on no more of the sources than it reads.
 abbrev pub RestsOnRead : Type 0

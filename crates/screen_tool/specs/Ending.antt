@@ -3,27 +3,27 @@ use Rattle.std.specs.Prelude.{◌≡◌, ◌⊎◌, ℕ}
 use Rattle.screen_tool.specs.declared.status.Status.{Status}
 use Rattle.screen_tool.specs.declared.status.Status.TheVariants as status
 use Rattle.screen_tool.specs.declared.status.Outcome.{Outcome}
-use Rattle.screen_tool.specs.declared.status.Outcome.TheVariants.{Done, Usage, RulesRefused, ReadingsRefused, TooManyBounds, NeedsRepair}
+use Rattle.screen_tool.specs.declared.status.Outcome.TheVariants.{Done, NoSeries, Usage, RulesRefused, ReadingsRefused, TooManyBounds}
 use Rattle.screen_tool.specs.declared.status.Ending.{Ending}
 use Rattle.screen_tool.specs.declared.status.Ending.TheVariants.{Ended, ReadFault, WriteFault, Memory}
 
 abbrev pub code_of : Status → ℕ
 code_of status.Done = 0
+code_of status.NoSeries = 1
 code_of status.Usage = 2
 code_of status.RulesRefused = 3
 code_of status.ReadingsRefused = 4
 code_of status.ReadFault = 5
 code_of status.WriteFault = 6
 code_of status.Memory = 7
-code_of status.NeedsRepair = 9
 
 abbrev pub outcome_status : Outcome → Status
 outcome_status Done = status.Done
+outcome_status NoSeries = status.NoSeries
 outcome_status Usage = status.Usage
 outcome_status (RulesRefused fault) = status.RulesRefused
 outcome_status (ReadingsRefused fault) = status.ReadingsRefused
 outcome_status TooManyBounds = status.ReadingsRefused
-outcome_status NeedsRepair = status.NeedsRepair
 
 abbrev pub status_of : Ending → Status
 status_of (Ended outcome) = outcome_status outcome

@@ -1,5 +1,6 @@
 pub mod Answer
 pub mod Answers
+pub mod Certificates
 pub mod Command
 pub mod Ending
 pub mod Files

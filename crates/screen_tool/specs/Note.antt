@@ -13,7 +13,7 @@ use Rattle.series_rows.specs.declared.fault.TableCause.TheVariants as readings
 use Rattle.screen_tool.specs.declared.status.Ending.{Ending}
 use Rattle.screen_tool.specs.declared.status.Ending.TheVariants.{Ended, ReadFault, WriteFault, Memory}
 use Rattle.screen_tool.specs.declared.status.Outcome.{Outcome}
-use Rattle.screen_tool.specs.declared.status.Outcome.TheVariants.{Done, Usage, RulesRefused, ReadingsRefused, TooManyBounds, NeedsRepair}
+use Rattle.screen_tool.specs.declared.status.Outcome.TheVariants.{Done, NoSeries, Usage, RulesRefused, ReadingsRefused, TooManyBounds}
 
 abbrev pub rule_cause_name : RuleCause → List ℕ
 rule_cause_name rules.Syntax = codes "Syntax"
@@ -72,11 +72,11 @@ readings_text name row col = codes "screen: readings refused: " ++ name ++ codes
 -- one line, and none where all is well
 abbrev pub outcome_text : Outcome → List ℕ
 outcome_text Done = []
+outcome_text NoSeries = codes "screen: no series obeys the rules\n"
 outcome_text Usage = usage_text
 outcome_text (RulesRefused fault) = codes "screen: rules refused: " ++ rule_cause_name fault.cause ++ codes ", rule " ++ decimal fault.rule ++ codes "\n"
 outcome_text (ReadingsRefused fault) = readings_text (table_cause_name fault.cause) fault.row fault.col
 outcome_text TooManyBounds = readings_text (codes "TooManyBounds") 0 0
-outcome_text NeedsRepair = codes "screen: the readings need repair\n"
 
 abbrev pub note_text : Ending → List ℕ
 note_text (Ended outcome) = outcome_text outcome

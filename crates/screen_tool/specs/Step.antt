@@ -2,8 +2,8 @@
 use Rattle.std.specs.Prelude.{◌≡◌, ℕ, ◌+◌, ◌<◌, ◌≤◌, List, length, Option, None, option_map, Result, Ok, Err, Vec}
 use Rattle.std.specs.declared.alloc.Global.{Global as Heap}
 use Rattle.rule_file.specs.Fault.{of_the_file as of_the_rules}
-use Rattle.bound_maker.specs.declared.maker.MakeFault.{MakeFault}
-use Rattle.bound_maker.specs.declared.maker.MakeFault.TheVariants as bounds
+use Rattle.global_repair.specs.declared.fault.RepairFault.{RepairFault}
+use Rattle.global_repair.specs.declared.fault.RepairFault.TheVariants as repair
 use Rattle.rule_file.specs.declared.fault.RuleCause.TheVariants as rules
 use Rattle.rule_file.specs.declared.fault.RuleFault.{RuleFault}
 use Rattle.series_rows.specs.Faults.{of_the_file as of_the_readings}
@@ -29,7 +29,7 @@ IsFound Reads bytes (Err Memory) = Unit {0}
 IsFound Reads bytes (Err TooLong) = ⊥
 IsFound Reads bytes (Err Failed) = ⊥
 
--- how a command ends at a fault of its rules, of its readings, and of the bounds of both
+-- how a command ends at a fault of its rules, of its readings, and of their repair
 abbrev pub rules_ending : StepFault RuleFault → Ending
 rules_ending TooLong = ending.Ended (RulesRefused (of_the_rules rules.FileTooLong))
 rules_ending (Refused fault) = ending.Ended (RulesRefused fault)
@@ -42,9 +42,9 @@ readings_ending (Refused fault) = ending.Ended (ReadingsRefused fault)
 readings_ending Failed = ending.ReadFault
 readings_ending Memory = ending.Memory
 
-abbrev pub bounds_ending : MakeFault → Ending
-bounds_ending bounds.TooManyBounds = ending.Ended TooManyBounds
-bounds_ending bounds.Memory = ending.Memory
+abbrev pub repair_ending : RepairFault → Ending
+repair_ending repair.TooManyBounds = ending.Ended TooManyBounds
+repair_ending repair.Memory = ending.Memory
 
 -- The reply is the answer: what it comes to, and its texts.
 pub record IsReplyOf (answer : Answer) (reply : Reply) : Type 0 where

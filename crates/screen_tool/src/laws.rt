@@ -1,5 +1,5 @@
 //! Laws of what the commands answer.
-ghost use Rattle.screen_tool.specs.Answers.{OneOutcome, RestsOnRead};
+ghost use Rattle.screen_tool.specs.Answers.{OneOutcome, OneText, RestsOnRead};
 ghost use Rattle.screen_tool.specs.Files.{RulesAreOne, ReadingsAreOne};
 
 /// The rules are read as one thing only, and so are the readings by any rules.
@@ -16,6 +16,15 @@ pub fn one_outcome()
     ensures { OneOutcome }
 {
     files_are_one();
+}
+
+/// The text of the output is one only, whatever flow is found. So a repaired file is a function of the two files that it is
+/// made from.
+pub fn one_text()
+    ensures { OneText }
+{
+    files_are_one();
+    least_cost::repair_is_one();
 }
 
 /// An answer rests on no more of the sources than it reads.

@@ -4,7 +4,6 @@
 //! constraint is that of Song, Zhang, Wang and Yu (SCREEN, SIGMOD 2015).
 #![tactic(auto)]
 
-mod bounds;
 mod cert;
 mod command;
 mod ends;
@@ -23,7 +22,7 @@ mod tests;
 
 pub use command::{Command, roles};
 pub use ends::{EndUse, Inputs, Outputs, Roles};
-pub use laws::{one_outcome, rests_on_read};
+pub use laws::{one_outcome, one_text, rests_on_read};
 pub use outside::real_ends;
 pub use program::run;
 pub use status::{Ending, Outcome, Status};

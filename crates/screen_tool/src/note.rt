@@ -41,11 +41,11 @@ fn outcome_note(outcome: &Outcome) -> Note
     let mut note = Note::new();
     match outcome {
         Outcome::Done => {}
+        Outcome::NoSeries => note.push_str("screen: no series obeys the rules\n"),
         Outcome::Usage => note.push_str(USAGE),
         Outcome::RulesRefused(fault) => return rules_note(fault),
         Outcome::ReadingsRefused(fault) => return table_note(fault),
         Outcome::TooManyBounds => return readings_note("TooManyBounds", 0, 0),
-        Outcome::NeedsRepair => note.push_str("screen: the readings need repair\n"),
     }
     note
 }

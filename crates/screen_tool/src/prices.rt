@@ -6,7 +6,7 @@ ghost use Rattle.rule_file.specs.declared.rules.DriftRule.{DriftRule};
 ghost use Rattle.rule_file.specs.declared.rules.RangeRule.{RangeRule};
 ghost use Rattle.rule_file.specs.declared.rules.SpeedRule.{SpeedRule};
 ghost use Rattle.rule_file.specs.declared.rules.SwingRule.{SwingRule};
-ghost use Rattle.screen_tool.specs.Global.{has_price};
+ghost use Rattle.screen_tool.specs.Certificates.{has_price};
 
 use rule_file::{BetweenRule, DriftRule, RangeRule, Rules, SpeedRule, SwingRule};
 

@@ -1,10 +1,11 @@
 //! What the program does with its words, its sources and its sinks.
 ghost use Rattle.std.specs.Prelude.{◌≡◌, ◌≢◌, ◌↔◌, Some, None, Err, IfOk, MatchResult};
 ghost use Rattle.screen_tool.specs.Answer.{Answer};
-ghost use Rattle.screen_tool.specs.Answers.{Answers};
+ghost use Rattle.least_cost.specs.Answer.{CountsChanges};
+ghost use Rattle.screen_tool.specs.Answers.{Answers, AnswersBy};
 ghost use Rattle.screen_tool.specs.Command.{command_of, roles_of, texts};
 ghost use Rattle.screen_tool.specs.Ending.{status_of};
-ghost use Rattle.screen_tool.specs.Headline.{Headline};
+ghost use Rattle.screen_tool.specs.Headline.{CountsReadFault, Headline};
 ghost use Rattle.screen_tool.specs.Note.{note_text};
 ghost use Rattle.screen_tool.specs.Performance.{AreCut, AreWritten, IsDue, IsNoted, LeavesUnused, Performs};
 ghost use Rattle.screen_tool.specs.Step.{Ends, IsReplyOf, Replies};
@@ -16,21 +17,23 @@ use crate::laws::{files_are_one, one_outcome, rests_on_read};
 use crate::note::note_of;
 use crate::reply::{Reply, write_text};
 use crate::status::{Ending, Outcome, Status};
+use flow_core::Solver;
 use screen_io::{Failed, Sink, Source, write_all_of};
 use std::alloc::Global;
 
 /// Does what the words ask for. They do not hold the program's name.
 ///
 /// `global RULES READINGS CERT` reads the rules and then the readings, and writes a certificate and the
-/// repaired readings. For now it writes the readings with their own values where they keep every bound that the rules
-/// make, those with a price too, and answers [`Status::NeedsRepair`] where they do not.
+/// repaired readings. Where no series obeys the rules it writes the certificate alone, and answers [`Status::NoSeries`].
+/// The solver does the repair; no other command uses it.
 ///
 /// Every text is made before the first is written. A note that can't be written changes nothing.
-pub fn run<S: Source, K: Sink>(
+pub fn run<S: Source, K: Sink, V: Solver>(
     alloc: Global,
     words: &[String],
     ins: &mut Inputs<S>,
     outs: &mut Outputs<K>,
+    solver: &mut V,
 ) -> Status
     // The words ask for no command.
     ensures usage { (result ≡ Status.Usage) ↔ (command_of (texts words.now) ≡ None) }
@@ -44,33 +47,43 @@ pub fn run<S: Source, K: Sink>(
     // What is due is answered, apart from counted faults and want of memory.
     ensures due { IsDue S.left (roles_of (command_of (texts words.now))) (Answers (command_of (texts words.now))) ins.old result }
 
+    // The solver is left where there is no command, and what it tells of itself stays.
+    ensures solver_stays { command_of (texts words.now) ≡ None → solver.new ≡ solver.old }
+    ensures most_stays { V.most solver.new ≡ V.most solver.old }
+
     // What the program is for.
     ensures headline { command_of (texts words.now) ≡ Some Command.Global →
-        Headline S.left S.faults K.held K.faults ins.old ins.new outs.old outs.new result }
+        Headline S.left S.faults K.held K.faults ins.old ins.new outs.old outs.new (V.most solver.new) (V.last solver.new) result }
 {
     // The laws that show `due` and `headline`; they do nothing.
     files_are_one();
     one_outcome();
     rests_on_read();
-    let ending = ending_of(alloc, command_from(words), ins, outs);
+    let ending = ending_of(alloc, command_from(words), ins, outs, solver);
     let note = note_of(&ending);
     let _ = write_all_of(&mut outs.note, note.as_str().as_bytes());
     ending.status()
 }
 
 /// Does what the command asks for, but for the note.
-fn ending_of<S: Source, K: Sink>(
+fn ending_of<S: Source, K: Sink, V: Solver>(
     alloc: Global,
     command: Option<Command>,
     ins: &mut Inputs<S>,
     outs: &mut Outputs<K>,
+    solver: &mut V,
 ) -> Ending
     ensures performs { Performs S.left S.faults K.held K.faults (Answers command) ins.old ins.new outs.old outs.new result }
+    ensures counts { result ≡ Ending.Ended Outcome.Done →
+        Performs S.left S.faults K.held K.faults (AnswersBy (λ problem. CountsChanges problem (V.most solver.new) (V.last solver.new)) command) ins.old ins.new outs.old outs.new (Ending.Ended Outcome.Done) }
+    ensures read_faults { command ≡ Some Command.Global → result ≡ Ending.ReadFault → CountsReadFault S.faults ins.old ins.new }
     ensures usage { (result ≡ Ending.Ended Outcome.Usage) ↔ (command ≡ None) }
     ensures unused { LeavesUnused (roles_of command) ins.old ins.new outs.old outs.new }
     ensures note { outs.new.note ≡ outs.old.note }
+    ensures solver_stays { command ≡ None → solver.new ≡ solver.old }
+    ensures most_stays { V.most solver.new ≡ V.most solver.old }
 {
-    match reply_of(alloc, command, ins) {
+    match reply_of(alloc, command, ins, solver) {
         Ok(reply) => match write_reply(&reply, outs) {
             Ok(()) => Ending::Ended(reply.outcome),
             Err(Failed) => Ending::WriteFault,
@@ -80,21 +93,26 @@ fn ending_of<S: Source, K: Sink>(
 }
 
 /// Reads what the command reads, and makes its texts.
-fn reply_of<S: Source>(
+fn reply_of<S: Source, V: Solver>(
     alloc: Global,
     command: Option<Command>,
     ins: &mut Inputs<S>,
+    solver: &mut V,
 ) -> Result<Reply, Ending>
     ensures answer { MatchResult result
-        (Replies S.left S.faults (Answers command) ins.old ins.new)
+        (Replies S.left S.faults (AnswersBy (λ problem. CountsChanges problem (V.most solver.new) (V.last solver.new)) command) ins.old ins.new)
         (Ends S.left S.faults (Answers command) ins.old ins.new) }
     ensures usage { (result ≡ Err (Ending.Ended Outcome.Usage)) ↔ (command ≡ None) }
     ensures done { IfOk result (λ reply. reply.outcome ≢ Outcome.Usage) }
+    ensures no_done { result ≢ Err (Ending.Ended Outcome.Done) }
+    ensures read_faults { command ≡ Some Command.Global → result ≡ Err Ending.ReadFault → CountsReadFault S.faults ins.old ins.new }
     ensures unread { ins.new.cert ≡ ins.old.cert }
     ensures idle { command ≡ None → ins.new ≡ ins.old }
+    ensures solver_stays { command ≡ None → solver.new ≡ solver.old }
+    ensures most_stays { V.most solver.new ≡ V.most solver.old }
 {
     match command {
-        Some(Command::Global) => global(alloc, ins),
+        Some(Command::Global) => global(alloc, ins, solver),
         None => Err(Ending::Ended(Outcome::Usage)),
     }
 }

@@ -3,7 +3,7 @@ ghost use Rattle.std.specs.Prelude.{◌≡◌};
 ghost use Rattle.screen_tool.specs.Ending.{code_of, status_of};
 
 use crate::step::StepFault;
-use bound_maker::MakeFault;
+use global_repair::RepairFault;
 use rule_file::RuleFault;
 use series_csv::{TableCause, TableFault};
 use std::alloc::AllocError;
@@ -13,6 +13,8 @@ use std::alloc::AllocError;
 pub enum Status {
     /// 0: all that the command writes is written.
     Done,
+    /// 1: no series obeys the rules.
+    NoSeries,
     /// 2: the words ask for no command.
     Usage,
     /// 3: the rules are refused.
@@ -25,8 +27,6 @@ pub enum Status {
     WriteFault,
     /// 7: memory ran out.
     Memory,
-    /// 9: the readings do not keep every bound of the rules, and repair is not built yet.
-    NeedsRepair,
 }
 
 impl Status {
@@ -36,13 +36,13 @@ impl Status {
     {
         match self {
             Status::Done => 0,
+            Status::NoSeries => 1,
             Status::Usage => 2,
             Status::RulesRefused => 3,
             Status::ReadingsRefused => 4,
             Status::ReadFault => 5,
             Status::WriteFault => 6,
             Status::Memory => 7,
-            Status::NeedsRepair => 9,
         }
     }
 }
@@ -52,6 +52,8 @@ impl Status {
 pub enum Outcome {
     /// All that the command writes is written.
     Done,
+    /// No series obeys the rules.
+    NoSeries,
     /// The words ask for no command.
     Usage,
     /// The rules are refused.
@@ -60,8 +62,6 @@ pub enum Outcome {
     ReadingsRefused(TableFault),
     /// The rules make more than 4,000,000 bounds of the readings.
     TooManyBounds,
-    /// The readings do not keep every bound.
-    NeedsRepair,
 }
 
 /// How a run ended.
@@ -84,12 +84,12 @@ impl Ending {
     {
         match self {
             Ending::Ended(Outcome::Done) => Status::Done,
+            Ending::Ended(Outcome::NoSeries) => Status::NoSeries,
             Ending::Ended(Outcome::Usage) => Status::Usage,
             Ending::Ended(Outcome::RulesRefused(_)) => Status::RulesRefused,
             Ending::Ended(Outcome::ReadingsRefused(_) | Outcome::TooManyBounds) => {
                 Status::ReadingsRefused
             }
-            Ending::Ended(Outcome::NeedsRepair) => Status::NeedsRepair,
             Ending::ReadFault => Status::ReadFault,
             Ending::WriteFault => Status::WriteFault,
             Ending::Memory => Status::Memory,
@@ -142,16 +142,16 @@ impl From<StepFault<TableFault>> for Ending {
     }
 }
 
-impl From<MakeFault> for Ending {
+impl From<RepairFault> for Ending {
     ghost use Rattle.std.specs.Prelude.{◌≡◌};
-    ghost use Rattle.screen_tool.specs.Step.{bounds_ending};
+    ghost use Rattle.screen_tool.specs.Step.{repair_ending};
 
-    ghost from_gives = { λ fault ending. ending ≡ bounds_ending fault };
+    ghost from_gives = { λ fault ending. ending ≡ repair_ending fault };
 
-    fn from(fault: MakeFault) -> Ending {
+    fn from(fault: RepairFault) -> Ending {
         match fault {
-            MakeFault::TooManyBounds => Ending::Ended(Outcome::TooManyBounds),
-            MakeFault::Memory => Ending::Memory,
+            RepairFault::TooManyBounds => Ending::Ended(Outcome::TooManyBounds),
+            RepairFault::Memory => Ending::Memory,
         }
     }
 }

@@ -1,6 +1,7 @@
 //! Whole runs of the program over sources and sinks in memory.
 use super::{Command, EndUse, Inputs, Outputs, Status, roles, run};
 use crate::command::command_from;
+use path_flow::PathSolver;
 use screen_io::{MemSink, MemSource, Source};
 use std::alloc::{AllocError, Global};
 use std::process::Abort;
@@ -29,6 +30,24 @@ const PRICED: &str =
 /// A speed rule, and readings that are right.
 const TRUST: &str =
     "[format]\ndecimals = 0\n[[speed]]\nsensor = \"x\"\nmin = -1\nmax = 1\nwindow = 10\n[[trust]]\nsensor = \"x\"\n";
+
+/// The same, and the first reading counts five times.
+const HEAVY: &str =
+    "[format]\ndecimals = 0\n[[speed]]\nsensor = \"x\"\nmin = -1\nmax = 1\nwindow = 10\n[[weight]]\nsensor = \"x\"\nweight = 5\nfrom = \"0\"\nto = \"0\"\n";
+
+/// Speed rules with the prices 1 and 2, the latter with readings that are right, and a range rule with the price 1 for such.
+const CHEAP: &str =
+    "[format]\ndecimals = 0\n[[speed]]\nsensor = \"x\"\nmin = -1\nmax = 1\nwindow = 10\nprice = 1\n";
+
+const DEAR_TRUST: &str =
+    "[format]\ndecimals = 0\n[[speed]]\nsensor = \"x\"\nmin = -1\nmax = 1\nwindow = 10\nprice = 2\n[[trust]]\nsensor = \"x\"\n";
+
+const DEAR_RANGE: &str =
+    "[format]\ndecimals = 0\n[[range]]\nsensor = \"x\"\nmax = 50\nprice = 1\n[[trust]]\nsensor = \"x\"\n";
+
+/// A range without a price, and readings that are right.
+const RANGE_TRUST: &str =
+    "[format]\ndecimals = 0\n[[range]]\nsensor = \"x\"\nmax = 50\n[[trust]]\nsensor = \"x\"\n";
 
 const RANGE: &str = "[format]\ndecimals = 0\n[[range]]\nsensor = \"x\"\nmax = 50\n";
 
@@ -114,7 +133,8 @@ fn run_over(
         cert: source(alloc, b"?", &[])?,
     };
     let words = words(alloc, texts)?;
-    let status = run(alloc, words.as_slice(), &mut ins, &mut outs);
+    let mut solver = PathSolver::new(alloc);
+    let status = run(alloc, words.as_slice(), &mut ins, &mut outs, &mut solver);
     let read_cert = ins.cert.read(&mut [0; 4]) != Ok(1);
     Ok(Ran {
         status,
@@ -212,43 +232,169 @@ fn readings_that_keep_all_bounds_are_written(rt: HostRuntime) -> Result<(), Fail
     Ok(())
 }
 
-/// Rules, and readings that break one of their bounds.
-const BROKEN: [(&str, &str); 15] = [
-    (BASE, "time,x\n0,10\n1,11\n2,20\n3,13\n"),
-    (BASE, "time,x\n0,0\n1,3\n"),
+/// Rules, readings that do not keep them, the repaired text, and the lines of the certificate after its claim.
+const REPAIRED: [(&str, &str, &str, &str); 15] = [
+    (
+        BASE,
+        "time,x\n0,10\n1,11\n2,20\n3,13\n",
+        "time,x\n0,10\n1,11\n2,12\n3,13\n",
+        "total 8\nset 3 2 12\nflow 1 2 3 2 up 1\n",
+    ),
+    // Of the two that change as little the greater.
+    (
+        BASE,
+        "time,x\n0,0\n1,3\n",
+        "time,x\n0,2\n1,3\n",
+        "total 2\nset 1 2 2\nflow 1 1 2 2 up 1\n",
+    ),
+    (
+        HEAVY,
+        "time,x\n0,0\n1,3\n",
+        "time,x\n0,0\n1,1\n",
+        "total 2\nset 2 2 1\nflow 1 1 2 2 up 1\n",
+    ),
     // The gap is the window.
-    (BASE, "time,x\n0,0\n10,100\n"),
-    (BASE, "time,x\n0,0\n10,11\n"),
-    (BASE, "time,x\n0,11\n10,0\n"),
-    (BASE, "time,x\n0,0\n1,\n2,3\n"),
-    (TRUST, "time,x\n0,0\n1,100\n"),
-    (FINE, "time,x\n0,0.00\n1,1.00\n"),
-    (SLOW, "time,x\n0,0\n1,0\n2,0\n3,1\n"),
-    (EXACT, "time,x\n0,0\n1,0\n"),
-    (BETWEEN, "time,in,out\n0,10,20\n"),
-    (RANGE, "time,x\n0,70\n"),
-    (SWING, "time,x\n0,0\n5,4\n10,8\n"),
-    (DRIFT, "time,x\n0,0\n5,5\n10,9\n"),
-    // The broken bound has a price.
-    (PRICED, "time,x\n0,0\n1,100\n"),
+    (
+        BASE,
+        "time,x\n0,0\n10,100\n",
+        "time,x\n0,90\n10,100\n",
+        "total 90\nset 1 2 90\nflow 1 1 2 2 up 1\n",
+    ),
+    (
+        FINE,
+        "time,x\n0,0.00\n1,1.00\n",
+        "time,x\n0,0.67\n1,1.00\n",
+        "total 67\nset 1 2 67\nflow 1 1 2 2 up 1\n",
+    ),
+    (
+        SLOW,
+        "time,x\n0,0\n1,0\n2,0\n3,1\n",
+        "time,x\n0,0\n1,0\n2,0\n3,0\n",
+        "total 1\nset 4 2 0\nflow 1 3 4 2 up 1\n",
+    ),
+    (
+        BETWEEN,
+        "time,in,out\n0,10,20\n",
+        "time,in,out\n0,15,20\n",
+        "total 5\nset 1 2 15\nflow 1 1 1 2 up 1\n",
+    ),
+    (
+        RANGE,
+        "time,x\n0,70\n",
+        "time,x\n0,50\n",
+        "total 20\nset 1 2 50\nflow 1 1 1 2 up 1\n",
+    ),
+    (
+        SWING,
+        "time,x\n0,0\n5,4\n10,8\n",
+        "time,x\n0,3\n5,4\n10,8\n",
+        "total 3\nset 1 2 3\nflow 1 1 3 2 up 1\n",
+    ),
+    (
+        DRIFT,
+        "time,x\n0,0\n5,5\n10,9\n",
+        "time,x\n0,8\n5,5\n10,9\n",
+        "total 8\nset 1 2 8\nflow 1 1 3 2 up 1\n",
+    ),
+    // The missing cell and the text beside it stay.
+    (
+        BASE,
+        "time,note,x\n0,\"a,b\",0\n1,, \n2,c,3\n",
+        "time,note,x\n0,\"a,b\",1\n1,, \n2,c,3\n",
+        "total 1\nset 1 3 1\nflow 1 1 3 3 up 1\n",
+    ),
+    // The broken bound has a price: it is paid, or not.
+    (
+        PRICED,
+        "time,x\n0,0\n1,100\n",
+        "time,x\n0,0\n1,100\n",
+        "total 99\npaid 99\nflow 1 1 2 2 up 1\n",
+    ),
+    (
+        CHEAP,
+        "time,x\n0,0\n1,3\n",
+        "time,x\n0,2\n1,3\n",
+        "total 2\npaid 0\nset 1 2 2\nflow 1 1 2 2 up 1\n",
+    ),
+    (
+        DEAR_TRUST,
+        "time,x\n0,0\n1,100\n",
+        "time,x\n0,0\n1,100\n",
+        "total 198\npaid 198\nflow 1 1 2 2 up 2\nflow 2 1 1 2 up 2\nflow 2 2 2 2 down 2\n",
+    ),
+    (
+        DEAR_RANGE,
+        "time,x\n0,70\n",
+        "time,x\n0,70\n",
+        "total 20\npaid 20\nflow 1 1 1 2 up 1\n",
+    ),
 ];
 
-fn assert_broken(
+/// Whether the certificate of a repair under these rules says what is paid.
+fn is_priced(rules: &str) -> bool {
+    [PRICED, CHEAP, DEAR_TRUST, DEAR_RANGE].contains(&rules)
+}
+
+fn assert_repaired(
     rt: &impl Abort,
     alloc: Global,
     rules: &str,
     readings: &str,
-) -> Result<(), AllocError> {
-    let note = b"screen: the readings need repair\n";
+    written: &str,
+    lines: &str,
+) -> Result<(), Fail> {
+    let version = if is_priced(rules) { 2 } else { 1 };
+    let cert = format!(in alloc; "screen-cert {version}\nclaim repair\n{lines}end\n")?;
     let ran = global(alloc, rules, readings.as_bytes())?;
-    ran.assert_is(rt, Status::NeedsRepair, b"", b"", note);
+    ran.assert_is(rt, Status::Done, written.as_bytes(), cert.as_bytes(), b"");
     Ok(())
 }
 
 #[test]
-fn readings_that_break_a_bound_need_repair(rt: HostRuntime) -> Result<(), Fail> {
-    for (rules, readings) in BROKEN {
-        assert_broken(&rt, rt.alloc(), rules, readings)?;
+fn readings_are_repaired(rt: HostRuntime) -> Result<(), Fail> {
+    for (rules, readings, written, lines) in REPAIRED {
+        assert_repaired(&rt, rt.alloc(), rules, readings, written, lines)?;
+    }
+    Ok(())
+}
+
+/// Rules, readings that have no repair under them, and the steps of the cycle that shows it.
+const BLOCKED: [(&str, &str, &str); 3] = [
+    (
+        TRUST,
+        "time,x\n0,0\n1,100\n",
+        "step 2 1 1 2 up\nstep 1 1 2 2 up\nstep 2 2 2 2 down\n",
+    ),
+    (
+        EXACT,
+        "time,x\n0,0\n1,0\n",
+        "step 1 1 2 2 up\nstep 1 1 2 2 down\n",
+    ),
+    (
+        RANGE_TRUST,
+        "time,x\n0,70\n",
+        "step 1 1 1 2 up\nstep 2 1 1 2 down\n",
+    ),
+];
+
+fn assert_blocked(
+    rt: &impl Abort,
+    alloc: Global,
+    rules: &str,
+    readings: &str,
+    steps: &str,
+) -> Result<(), Fail> {
+    let cert = format!(in alloc; "screen-cert 1\nclaim none\n{steps}end\n")?;
+    let note = b"screen: no series obeys the rules\n";
+    let ran = global(alloc, rules, readings.as_bytes())?;
+    ran.assert_is(rt, Status::NoSeries, b"", cert.as_bytes(), note);
+    Ok(())
+}
+
+#[test]
+fn a_cycle_is_written_where_no_series_obeys(rt: HostRuntime) -> Result<(), Fail> {
+    for (rules, readings, steps) in BLOCKED {
+        assert_blocked(&rt, rt.alloc(), rules, readings, steps)?;
     }
     Ok(())
 }

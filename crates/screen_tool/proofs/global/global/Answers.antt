@@ -1,5 +1,7 @@
+use Rattle.std.proofs.Common.{inr}
 use Rattle.std.proofs.lemmas.Result.{err_from_is_err_and}
-use Rattle.screen_tool.proofs.Steps.{rules_end, readings_end, table_comes, readings_no_usage, err_one}
+use Rattle.least_cost.specs.Answer.{CountsChanges}
+use Rattle.screen_tool.proofs.Steps.{rules_end, readings_end, table_comes, readings_no_done, readings_no_usage, readings_counted, err_one}
 use Rattle.screen_tool.proofs.global.global.Goals as goal
 
 pub returns-in_err-rules-clause-answer : goal.returns-in_err-rules-clause-answer
@@ -17,5 +19,16 @@ returns-in_err-table-clause-no_usage g c =
     let p = err_from_is_err_and c.from_residual-in_err-table.result c.from_residual-in_err-table.ensures.1 in
     rw (p.1, p.2) (λ same. readings_no_usage c.in_err-table.field-0.0 (err_one same))
 
+pub returns-in_err-table-clause-no_done : goal.returns-in_err-table-clause-no_done
+returns-in_err-table-clause-no_done g c =
+    let p = err_from_is_err_and c.from_residual-in_err-table.result c.from_residual-in_err-table.ensures.1 in
+    rw (p.1, p.2) (λ same. readings_no_done c.in_err-table.field-0.0 (err_one same))
+
+pub returns-in_err-table-clause-read_faults : goal.returns-in_err-table-clause-read_faults
+returns-in_err-table-clause-read_faults g c =
+    let p = err_from_is_err_and c.from_residual-in_err-table.result c.from_residual-in_err-table.ensures.1 in
+    rw (p.1, p.2) (λ same. inr (readings_counted g.S.Source.left g.S.Source.faults c.args.ins.now _ _ _ c.in_err-table.ensures (err_one same)))
+
 pub returns-clause-answer : goal.returns-clause-answer
-returns-clause-answer g c = table_comes g.S.Source.left g.S.Source.faults c.files_are_one.ensures.rules _ _ _ _ _ _ c.in_ok-rules.ensures c.in_ok-table.ensures c.reply_over.ensures.answer
+returns-clause-answer g c =
+    table_comes g.S.Source.left g.S.Source.faults (λ problem. CountsChanges problem (g.V.Solver.most c.reply_over.new.solver) (g.V.Solver.last c.reply_over.new.solver)) c.files_are_one.ensures.rules c.args.ins.now _ _ _ _ _ c.in_ok-rules.ensures c.in_ok-table.ensures c.reply_over.ensures.answer

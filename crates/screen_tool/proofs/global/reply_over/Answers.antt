@@ -1,23 +1,25 @@
-use Rattle.std.proofs.Common.{refl}
+use Rattle.std.proofs.Common.{◌≤◌, length, arith}
 use Rattle.std.proofs.lemmas.Result.{err_from_is_err_and}
-use Rattle.screen_tool.specs.Global.{unchanged, needs_repair}
-use Rattle.screen_tool.proofs.Steps.{bounds_come, break_comes, keep_comes, bounds_no_usage, err_one}
+use Rattle.least_cost.specs.Answer.{CountsChanges}
+use Rattle.screen_model.specs.declared.limits.TheConstants.{MOST_READINGS}
+use Rattle.series_csv.specs.Readings.{places}
+use Rattle.screen_tool.proofs.Steps.{repair_comes, repair_fails}
+use Rattle.screen_tool.proofs.Written.{found_for}
 use Rattle.screen_tool.proofs.global.reply_over.Goals as goal
 
-pub returns-in_err-bounds-clause-answer : goal.returns-in_err-bounds-clause-answer
-returns-in_err-bounds-clause-answer c =
+pub returns-in_err-found-clause-answer : goal.returns-in_err-found-clause-answer
+returns-in_err-found-clause-answer g c =
     let p = err_from_is_err_and c.from_residual.result c.from_residual.ensures.1 in
-    rw (p.1, p.2) (bounds_come c.args.rules.now c.args.table.now _ c.in_err-bounds.ensures.too_many)
+    rw (p.1, p.2) (repair_fails (λ problem. CountsChanges problem (g.V.Solver.most c.repair.new.solver) (g.V.Solver.last c.repair.new.solver)) c.args.rules.now c.args.table.now c.in_err-found.field-0.0 c.in_err-found.ensures.too_many)
 
-pub returns-in_err-bounds-clause-no_usage : goal.returns-in_err-bounds-clause-no_usage
-returns-in_err-bounds-clause-no_usage c =
-    let p = err_from_is_err_and c.from_residual.result c.from_residual.ensures.1 in
-    rw (p.1, p.2) (λ same. bounds_no_usage c.in_err-bounds.field-0.0 (err_one same))
-
-pub returns-then-not-keep_all-clause-answer : goal.returns-then-not-keep_all-clause-answer
-returns-then-not-keep_all-clause-answer c =
-    (needs_repair, refl, refl, refl, break_comes c.args.rules.now c.args.table.now _ _ c.in_ok-bounds.ensures.made c.in_ok-bounds.ensures.few c.keep_all.ensures c.if-not-keep_all.true)
+pub reply_of-requires : goal.reply_of-requires
+reply_of-requires g c =
+    let few : length (places c.args.table.now) ≤ MOST_READINGS = omega (arith, c.places-places.ensures.len, c.len-len.ensures.len, c.len-len.ensures.most) in
+    found_for c.args.rules.now c.args.table.now c.in_ok-found.found c.names_can_be_written.ensures c.problem_is_sound.ensures c.places-places.ensures.order few c.in_ok-found.ensures.few c.in_ok-found.ensures.answer c.in_ok-found.ensures.made
 
 pub returns-clause-answer : goal.returns-clause-answer
-returns-clause-answer c =
-    (unchanged c.args.rules.now c.args.table.now, c.in_ok-reply.ensures.texts, keep_comes c.args.rules.now c.args.table.now _ _ c.in_ok-bounds.ensures.made c.in_ok-bounds.ensures.few c.keep_all.ensures c.if-not-keep_all.false)
+returns-clause-answer g c =
+    let few : length (places c.args.table.now) ≤ MOST_READINGS = omega (arith, c.places-places.ensures.len, c.len-len.ensures.len, c.len-len.ensures.most) in
+    let found = found_for c.args.rules.now c.args.table.now c.in_ok-found.found c.names_can_be_written.ensures c.problem_is_sound.ensures c.places-places.ensures.order few c.in_ok-found.ensures.few c.in_ok-found.ensures.answer c.in_ok-found.ensures.made in
+    repair_comes (λ problem. CountsChanges problem (g.V.Solver.most c.repair.new.solver) (g.V.Solver.last c.repair.new.solver)) c.args.rules.now c.args.table.now c.in_ok-found.found c.in_ok-reply.reply
+    c.in_ok-found.ensures.few found c.in_ok-found.ensures.changes c.in_ok-reply.ensures.texts

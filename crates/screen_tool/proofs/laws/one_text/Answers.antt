@@ -1,0 +1,5 @@
+use Rattle.screen_tool.proofs.AnswerLaws.{texts_one}
+use Rattle.screen_tool.proofs.laws.one_text.Goals as goal
+
+pub returns : goal.returns
+returns c = texts_one c.files_are_one.ensures.rules c.files_are_one.ensures.readings c.repair_is_one.ensures
