@@ -326,7 +326,7 @@ const REPAIRED: [(&str, &str, &str, &str); 15] = [
         DEAR_RANGE,
         "time,x\n0,70\n",
         "time,x\n0,70\n",
-        "total 20\npaid 20\nflow 1 1 1 2 up 1\n",
+        "total 20\npaid 20\nflow 1 1 1 2 up 1\nflow 2 1 1 2 down 1\n",
     ),
 ];
 
