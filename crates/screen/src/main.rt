@@ -18,7 +18,13 @@ fn run_on<R: Runtime + AllocGlobal>(rt: &R) -> Result<u8, AllocError> {
     let words = words(rt)?;
     let (mut ins, mut outs) = real_ends(rt, words.as_slice())?;
     let mut solver = PathSolver::new(rt.alloc());
-    let status = run(rt.alloc(), words.as_slice(), &mut ins, &mut outs, &mut solver);
+    let status = run(
+        rt.alloc(),
+        words.as_slice(),
+        &mut ins,
+        &mut outs,
+        &mut solver,
+    );
     Ok(status.code())
 }
 

@@ -46,6 +46,6 @@ returns-clause-headline g c = λ is.
     (headline g.S.Source.left g.S.Source.faults g.K.Sink.held g.K.Sink.faults c.files_are_one.ensures.rules c.files_are_one.ensures.readings c.args.ins.now c.ending_of-ending.new.ins c.args.outs.now outs_now
     (g.V.Solver.most c.ending_of-ending.new.solver) (g.V.Solver.last c.ending_of-ending.new.solver) how given
     (λ done. subst
-        (λ (command : Option Command). Performs g.S.Source.left g.S.Source.faults g.K.Sink.held g.K.Sink.faults (AnswersBy (λ problem. CountsChanges problem (g.V.Solver.most c.ending_of-ending.new.solver) (g.V.Solver.last c.ending_of-ending.new.solver)) command) c.args.ins.now c.ending_of-ending.new.ins c.args.outs.now outs_now (ending.Ended outcome.Done))
-        asked (c.ending_of-ending.ensures.counts done))
+    (λ (command : Option Command). Performs g.S.Source.left g.S.Source.faults g.K.Sink.held g.K.Sink.faults (AnswersBy (λ problem. CountsChanges problem (g.V.Solver.most c.ending_of-ending.new.solver) (g.V.Solver.last c.ending_of-ending.new.solver)) command) c.args.ins.now c.ending_of-ending.new.ins c.args.outs.now outs_now (ending.Ended outcome.Done))
+    asked (c.ending_of-ending.ensures.counts done))
     (λ failed. c.ending_of-ending.ensures.read_faults asked failed))
