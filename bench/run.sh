@@ -4,13 +4,44 @@
 # byte and by slices. `table` reads and writes readings files of two and of eight columns, and prints for a row. `bounds`
 # makes the bounds of a speed rule and of a swing rule, and tests the readings by them, and prints for a bound. For the
 # blocked chain it also prints the ratio of its proved time to that of the chain that
-# settles.
+# settles. `global` has no twin yet: it runs the built program on files of seven kinds, and prints its best time and the
+# greatest memory that it took.
 #
-# usage: bench/run.sh units|text_of|ticks|records|table|bounds|settle|blocked [ROUNDS]
+# usage: bench/run.sh units|text_of|ticks|records|table|bounds|settle|blocked|global [ROUNDS]
 set -euo pipefail
 cd "$(dirname "$0")/.."
-what=${1:?usage: bench/run.sh units|text_of|ticks|records|table|bounds|settle|blocked [ROUNDS]}
+what=${1:?usage: bench/run.sh units|text_of|ticks|records|table|bounds|settle|blocked|global [ROUNDS]}
 rounds=${2:-5}
+
+# repair KIND READINGS: the whole program on files of that kind.
+repair() {
+    local kind=$1 readings=$2 folder=bench/out/$1 status began took best= memory
+    mkdir -p "$folder"
+    bench/out/files "$kind" "$readings" "$folder"
+    for _ in $(seq "$rounds"); do
+        status=0
+        began=${EPOCHREALTIME/./}
+        /usr/bin/time -f %M -o "$folder/memory" crates/screen/out/screen global "$folder/rules.toml" "$folder/readings.csv" \
+            "$folder/cert" > "$folder/out" 2> "$folder/err" || status=$?
+        took=$((${EPOCHREALTIME/./} - began))
+        # Where no series obeys, the status is 1.
+        [ "$status" = 0 ] || [ "$kind $status" = "blocked 1" ] || { cat "$folder/err"; exit 1; }
+        [ -n "$best" ] && [ "$best" -le "$took" ] || best=$took
+    done
+    memory=$(tail -n 1 "$folder/memory")
+    echo "$kind: $readings readings, $((best / 1000)) ms, $((memory * 1024 / readings)) bytes a reading"
+}
+
+if [ "$what" = global ]; then
+    mkdir -p bench/out
+    rustc -O -o bench/out/files bench/files.rs
+    make all > bench/out/build.log 2>&1 || { tail -n 20 bench/out/build.log; exit 1; }
+    for kind in spikes noise5 noise20 two blocked step below; do
+        repair "$kind" 20000
+        repair "$kind" 200000
+    done
+    exit
+fi
 
 # The blocked chain is settled by the same twin as the other one.
 twin=$what
