@@ -1,0 +1,12 @@
+pub mod Placed
+pub mod Added
+pub mod Marked
+pub mod Steps
+pub mod Tallied
+pub mod Pulled
+pub mod Faults
+pub mod Fits
+pub mod Truths
+pub mod Judging
+pub mod Passed
+pub mod Rings
