@@ -43,6 +43,7 @@ test:
 	@rt ci < /dev/null
 	@tests/documents
 	@tests/program $(BINARY)
+	@tests/drawn_files $(BINARY)
 
 # What the documents copy from elsewhere is what stands there.
 check-docs:
