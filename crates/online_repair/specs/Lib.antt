@@ -1,0 +1,14 @@
+pub mod Accepted
+pub mod Engines
+pub mod Feeds
+pub mod Named
+pub mod Keeping
+pub mod NotOnline
+pub mod Output
+pub mod Rows
+pub mod Sensors
+pub mod Shown
+pub mod Standing
+pub mod StandsFor
+pub mod Storing
+pub mod Tracks
