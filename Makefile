@@ -7,6 +7,7 @@ BINARY := crates/screen/out/screen
 BUILD_LOG := crates/screen/out/build.log
 SOURCES := crates.txt $(shell find crates -name out -prune -o -type f \( -name '*.rt' -o -name '*.antt' \) -print)
 EXAMPLE := examples/cold_room
+SPIKE := examples/cold_room_spike
 CERT := crates/screen/out/example.cert
 HAS_RT := command -v rt > /dev/null || { echo 'The command rt of the Rattle kit is not on the path.'; exit 1; }
 
@@ -28,14 +29,22 @@ $(BINARY): $(SOURCES)
 	@(cd crates/screen && rt run) < /dev/null 2>&1 | tee $(BUILD_LOG) | { $(PROOFS); }
 	@test -x $(BINARY) || { tail -n 20 $(BUILD_LOG); echo 'The build failed. All that it printed is in $(BUILD_LOG).'; exit 1; }
 
-# Runs an example, prints what it writes, and compares that with what it should write.
+# Runs two examples, prints what comes of them, and compares that with what should come: a log that obeys is written as it
+# was; of one with a wrong reading the changed lines are shown, and its certificate is checked.
 demo: $(BINARY)
 	@echo '$$ $(BINARY) global $(EXAMPLE)/rules.toml $(EXAMPLE)/readings.csv $(CERT)'
 	@$(BINARY) global $(EXAMPLE)/rules.toml $(EXAMPLE)/readings.csv $(CERT) > $(CERT).csv
 	@cat $(CERT).csv
+	@cmp $(CERT).csv $(EXAMPLE)/expected.out && cmp $(CERT) $(EXAMPLE)/expected.cert
+	@echo '$$ $(BINARY) global $(SPIKE)/rules.toml $(SPIKE)/readings.csv $(CERT) > $(CERT).csv'
+	@$(BINARY) global $(SPIKE)/rules.toml $(SPIKE)/readings.csv $(CERT) > $(CERT).csv
+	@echo '$$ diff $(SPIKE)/readings.csv $(CERT).csv'
+	@diff $(SPIKE)/readings.csv $(CERT).csv; test $$? = 1
 	@echo '$$ cat $(CERT)'
 	@cat $(CERT)
-	@cmp $(CERT).csv $(EXAMPLE)/expected.out && cmp $(CERT) $(EXAMPLE)/expected.cert
+	@echo '$$ $(BINARY) check $(SPIKE)/rules.toml $(SPIKE)/readings.csv $(CERT)'
+	@$(BINARY) check $(SPIKE)/rules.toml $(SPIKE)/readings.csv $(CERT)
+	@cmp $(CERT).csv $(SPIKE)/expected.out && cmp $(CERT) $(SPIKE)/expected.cert
 
 # Proves everything again, which also builds the program, and tries the program and the documents.
 test:

@@ -10,3 +10,6 @@ pub mod Truths
 pub mod Judging
 pub mod Passed
 pub mod Rings
+pub mod Shown
+pub mod Ringed
+pub mod Short

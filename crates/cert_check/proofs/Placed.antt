@@ -10,7 +10,8 @@ use Rattle.screen_model.specs.Series.{is_same_place}
 use Rattle.screen_model.proofs.Places.{other_place, same_place}
 use Rattle.cert_format.specs.declared.cert.SetLine.{SetLine}
 use Rattle.bound_maker.proofs.Found.{contains_at}
-use Rattle.cert_check.specs.Repair.{is_change, series_set, value_set}
+use Rattle.cert_format.specs.Sets.{series_set, value_set}
+use Rattle.cert_check.specs.Repair.{is_change}
 
 none_is_some : {A : Type 0} (x : A) → ◌≡◌ {A = Option A} None (Some x) → ⊥
 none_is_some x e = cc

@@ -58,18 +58,18 @@ goes_split earlier last bound n bounds true is none =
 goes_on : (earlier : List End) (last : End) (bound : Bound) (n : ℕ) (bounds : List Bound) → first_open earlier last n (bound ∷ bounds) ≡ None → GoesOn earlier last bound n bounds
 goes_on earlier last bound n bounds none = goes_split earlier last bound n bounds (is_same_end bound.first last && not (is_among earlier bound.first)) refl none
 
-abbrev firsts : List Bound → List End
+abbrev pub firsts : List Bound → List End
 firsts bounds = map (λ (bound : Bound). bound.first) bounds
 
-abbrev seconds : List Bound → List End
+abbrev pub seconds : List Bound → List End
 seconds bounds = map (λ (bound : Bound). bound.second) bounds
 
 -- where the last one ends, or else the end given
-abbrev last_or : End → List Bound → End
+abbrev pub last_or : End → List Bound → End
 last_or last [] = last
 last_or last (bound ∷ bounds) = last_or bound.second bounds
 
-last_is : (bound : Bound) (bounds : List Bound) → last_or bound.second bounds ≡ last_second (bound ∷ bounds)
+pub last_is : (bound : Bound) (bounds : List Bound) → last_or bound.second bounds ≡ last_second (bound ∷ bounds)
 last_is bound [] = refl
 last_is bound (next ∷ bounds) = last_is next bounds
 
@@ -95,7 +95,7 @@ closed (bound ∷ bounds) none =
 
 -- ---- no two begin at one end
 
-abbrev AreNew : List End → List Bound → Type 0
+abbrev pub AreNew : List End → List Bound → Type 0
 AreNew earlier bounds = AllByRecursion (λ (bound : Bound). is_among earlier bound.first ≡ false) bounds
 
 or_parts : (a b : Bool) → (a || b) ≡ false → (a ≡ false) × (b ≡ false)
@@ -145,13 +145,13 @@ free_each rules (p ∷ list) (name ∷ names) are prices free =
     let later : names_of list ≡ names = cc in
     (prices.0 ∙ (ap (λ (n : BoundName). price_of_number rules n.rule) same ∙ free_if (price_of_number rules name.rule) free.0), free_each rules list names later prices.1 free.1)
 
-map_twice : {A B C : Type 0} (g : B → C) (f : A → B) (xs : List A) → map g (map f xs) ≡ map (λ x. g (f x)) xs
+pub map_twice : {A B C : Type 0} (g : B → C) (f : A → B) (xs : List A) → map g (map f xs) ≡ map (λ x. g (f x)) xs
 map_twice g f [] = refl
 map_twice g f (x ∷ xs) = ap (λ zs. g (f x) ∷ zs) (map_twice g f xs)
 
 -- ---- cycles
 
-map_same : (names : List BoundName) → map (λ (name : BoundName). name) names ≡ names
+pub map_same : (names : List BoundName) → map (λ (name : BoundName). name) names ≡ names
 map_same [] = refl
 map_same (name ∷ names) = ap (λ (ns : List BoundName). name ∷ ns) (map_same names)
 

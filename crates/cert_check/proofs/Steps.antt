@@ -72,7 +72,7 @@ known_split p bounds name false is later has =
     let rest : Contains (names_of bounds) name = contains_after p.bound.name (names_of bounds) name (λ same. apart_tests name p.bound.name (sym same) is) has in
     ap (λ b. b || is_known bounds name) is ∙ later rest
 
-known_yes : (bounds : List Priced) (name : BoundName) → Contains (names_of bounds) name → is_known bounds name ≡ true
+pub known_yes : (bounds : List Priced) (name : BoundName) → Contains (names_of bounds) name → is_known bounds name ≡ true
 known_yes [] name has = absurd (contains_none name has)
 known_yes (p ∷ bounds) name has = known_split p bounds name (is_same_name name p.bound.name) refl (known_yes bounds name) has
 

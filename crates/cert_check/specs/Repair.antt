@@ -10,6 +10,7 @@ use Rattle.screen_model.specs.Cost.{Problem, cost, paid}
 use Rattle.screen_model.specs.Flow.{dual_value, pull}
 use Rattle.screen_model.specs.Names.{amounts_of, is_same_name}
 use Rattle.cert_format.specs.declared.cert.SetLine.{SetLine}
+use Rattle.cert_format.specs.Sets.{series_set}
 use Rattle.rule_file.specs.declared.rules.Rules.{Rules}
 use Rattle.series_csv.specs.File.{TableView}
 use Rattle.series_csv.specs.Readings.{places, values}
@@ -24,19 +25,6 @@ use Rattle.cert_check.specs.declared.repair.Claim.{Claim}
 abbrev pub first_line : {A : Type 0} → (A → Bool) → ℕ → List A → Option ℕ
 first_line test before [] = None
 first_line test before (line ∷ lines) = if test line then Some (suc before) else first_line test (suc before) lines
-
--- ---- the series
-
--- the value of the reading at a place after these set lines
-abbrev pub value_set : Place → ℤ → List SetLine → ℤ
-value_set place value [] = value
-value_set place value (line ∷ sets) = value_set place (if is_same_place line.place place then line.value else value) sets
-
--- the values of the readings at these places after these set lines
-abbrev pub series_set : List Place → List ℤ → List SetLine → List ℤ
-series_set (place ∷ places) (value ∷ values) sets = value_set place value sets ∷ series_set places values sets
-series_set [] values sets = []
-series_set (place ∷ places) [] sets = []
 
 -- the series of a claim: that of the readings, with the values of the set lines
 abbrev pub series_of : TableView → Claim → List ℤ

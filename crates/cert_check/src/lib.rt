@@ -19,5 +19,5 @@ mod verdict;
 
 pub use accepted::Accepted;
 pub use fault::CertFault;
-pub use laws::{accepted_is_true, an_answer, one_answer};
+pub use laws::{accepted_is_true, an_answer, one_answer, shown_is_short, truth_is_accepted};
 pub use verdict::check;

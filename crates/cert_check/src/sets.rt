@@ -2,7 +2,8 @@
 ghost use Rattle.std.specs.Prelude.{◌≡◌, ◌+◌, ◌^◌, ◌<◌, [], ◌∷◌, not, length, IfOk};
 ghost use Rattle.std.specs.Ordering.{int_eq};
 ghost use Rattle.series_csv.specs.Readings.{places, values};
-ghost use Rattle.cert_check.specs.Repair.{first_line, is_change, series_set};
+ghost use Rattle.cert_format.specs.Sets.{series_set};
+ghost use Rattle.cert_check.specs.Repair.{first_line, is_change};
 
 use cert_format::SetLine;
 use screen_model::Series;

@@ -44,7 +44,7 @@ pub fn check(
     ensures refused { IfErr result (λ fault. fault ≢ Memory → Judges rules.now table.now bytes.now (Err fault)) }
     ensures only { (answer : Result Accepted CertFault) → Judges rules.now table.now bytes.now answer → UnlessMemory Memory (λ given. given ≡ answer) result }
 {
-    // The law behind `only`; it does nothing.
+    // The law that shows `only`; it does nothing.
     one_answer();
     if bytes.len() > LONGEST {
         return Err(CertFault::FileTooLong);

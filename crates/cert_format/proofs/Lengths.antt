@@ -17,7 +17,8 @@ use Rattle.cert_format.specs.declared.line.Line.TheVariants.{Total, Paid, Set, F
 use Rattle.cert_format.specs.Words.{line_feed, space}
 use Rattle.cert_format.specs.Line.{IsName, IsTotal, IsSet, IsItem, side_word, text_of_line}
 use Rattle.cert_format.specs.Cert.{AreLists, HasText, text_of_cert}
-use Rattle.cert_format.specs.Laws.{HasShortValue, HasShortAmount, AreShortLists, HasFewLines, ShortTexts}
+use Rattle.cert_format.specs.declared.limits.TheConstants.{LONGEST}
+use Rattle.cert_format.specs.Laws.{AreFew, AreShort, HasFewLines, HasShortAmount, HasShortLines, HasShortValue, ShortTexts}
 use Rattle.cert_format.proofs.Refusals.{text_of, text_of-append}
 
 -- ---- numbers
@@ -72,6 +73,22 @@ flow_short item is short =
     let few : length amount ≤ 10 = positive_short 10 item.amount (omega arith) (omega arith) (omega (arith, ints, is.1.0)) (omega (arith, short)) (omega (arith, short)) in
     omega (arith, few, side_short item.name.side, numbers_short item.name (side ++ space ∷ amount) is.0, length_led side amount)
 
+set_fits : (line : SetLine) → IsSet line → length (text_of_line (Set line)) < 35
+set_fits line is =
+    let value = signed_decimal line.value in
+    let row : length (decimal line.place.row) ≤ 6 = decimal_short 6 line.place.row (omega arith) (omega arith) (omega (arith, is.0.row_most)) (omega (arith, is.0.row_most)) in
+    let col : length (decimal line.place.col) ≤ 3 = decimal_short 3 line.place.col (omega arith) (omega arith) (omega (arith, is.0.col_most)) (omega (arith, is.0.col_most)) in
+    let few : length value ≤ 19 = signed_short 18 line.value (omega arith) (omega arith) (omega (arith, is.1)) (omega (arith, is.1)) in
+    omega (arith, row, col, few, length_led (decimal line.place.row) (decimal line.place.col ++ space ∷ value), length_led (decimal line.place.col) value)
+
+flow_fits : (item : FlowItem) → IsItem item → length (text_of_line (Flow item)) < 50
+flow_fits item is =
+    let amount = signed_decimal item.amount in
+    let side = side_word item.name.side in
+    let small : unsigned_abs item.amount < 10 ^ 16 = omega (arith, ints, is.1.0, is.1.1) in
+    let few : length amount ≤ 16 = positive_short 16 item.amount (omega arith) (omega arith) (omega (arith, ints, is.1.0)) small (omega (arith, small)) in
+    omega (arith, few, side_short item.name.side, numbers_short item.name (side ++ space ∷ amount) is.0, length_led side amount)
+
 step_short : (name : BoundName) → IsName name → length (text_of_line (Step name)) < 33
 step_short name is = omega (arith, side_short name.side, numbers_short name (side_word name.side) is)
 
@@ -105,27 +122,57 @@ steps_short : (steps : List BoundName) → AllByRecursion IsName steps → lengt
 steps_short [] are = omega arith
 steps_short (name ∷ steps) are = omega (arith, step_short name are.0, steps_short steps are.1, length_more (Step name) (map Step steps))
 
-lists_short : (sets : List SetLine) (flow : List FlowItem) → AreLists sets flow → AreShortLists sets flow → length (text_of ((map Set sets ++ map Flow flow) ++ End ∷ [])) ≤ 189200004
-lists_short sets flow are short =
-    let (few_sets, values, few_items, amounts) = short in
+lists_short : (sets : List SetLine) (flow : List FlowItem) → AreLists sets flow → AreFew sets flow → AreShort sets flow → length (text_of ((map Set sets ++ map Flow flow) ++ End ∷ [])) ≤ 189200004
+lists_short sets flow are few short =
     omega (
       arith,
-      few_sets,
-      few_items,
-      sets_short sets are.each_set values,
-      items_short flow are.each_item amounts,
+      few.0,
+      few.1,
+      sets_short sets are.each_set short.0,
+      items_short flow are.each_item short.1,
       length_both (map Set sets) (map Flow flow),
       length_both (map Set sets ++ map Flow flow) (End ∷ []),
     )
 
-text_short : (cert : Cert) → HasText cert → HasFewLines cert → length (text_of_cert cert) < 190000000
-text_short (Repair total sets flow) has few =
+text_short : (cert : Cert) → HasText cert → HasFewLines cert → HasShortLines cert → length (text_of_cert cert) < 190000000
+text_short (Repair total sets flow) has few short =
     let lists = (map Set sets ++ map Flow flow) ++ End ∷ [] in
-    omega (arith, lists_short sets flow has.1 few, total_short total has.0, length_more (Total total) lists)
-text_short (Priced total paid sets flow) has few =
+    omega (arith, lists_short sets flow has.1 few short, total_short total has.0, length_more (Total total) lists)
+text_short (Priced total paid sets flow) has few short =
     let lists = (map Set sets ++ map Flow flow) ++ End ∷ [] in
-    omega (arith, lists_short sets flow has.2 few, total_short total has.0, paid_short paid has.1, length_more (Total total) (Paid paid ∷ lists), length_more (Paid paid) lists)
-text_short (NoSeries steps) has few = omega (arith, few, steps_short steps has.1, length_both (map Step steps) (End ∷ []))
+    omega (arith, lists_short sets flow has.2 few short, total_short total has.0, paid_short paid has.1, length_more (Total total) (Paid paid ∷ lists), length_more (Paid paid) lists)
+text_short (NoSeries steps) has few short = omega (arith, few, steps_short steps has.1, length_both (map Step steps) (End ∷ []))
+
+-- ---- texts of lines of any kind
+
+sets_fit : (sets : List SetLine) → AllByRecursion IsSet sets → length (text_of (map Set sets)) ≤ 35 * length sets
+sets_fit [] are = omega arith
+sets_fit (line ∷ sets) are = omega (arith, set_fits line are.0, sets_fit sets are.1, length_more (Set line) (map Set sets))
+
+items_fit : (flow : List FlowItem) → AllByRecursion IsItem flow → length (text_of (map Flow flow)) ≤ 50 * length flow
+items_fit [] are = omega arith
+items_fit (item ∷ flow) are = omega (arith, flow_fits item are.0, items_fit flow are.1, length_more (Flow item) (map Flow flow))
+
+lists_fit : (sets : List SetLine) (flow : List FlowItem) → AreLists sets flow → AreFew sets flow → length (text_of ((map Set sets ++ map Flow flow) ++ End ∷ [])) ≤ 214000004
+lists_fit sets flow are few =
+    omega (
+      arith,
+      few.0,
+      few.1,
+      sets_fit sets are.each_set,
+      items_fit flow are.each_item,
+      length_both (map Set sets) (map Flow flow),
+      length_both (map Set sets ++ map Flow flow) (End ∷ []),
+    )
+
+text_fits : (cert : Cert) → HasText cert → HasFewLines cert → length (text_of_cert cert) ≤ LONGEST
+text_fits (Repair total sets flow) has few =
+    let lists = (map Set sets ++ map Flow flow) ++ End ∷ [] in
+    omega (arith, lists_fit sets flow has.1 few, total_short total has.0, length_more (Total total) lists)
+text_fits (Priced total paid sets flow) has few =
+    let lists = (map Set sets ++ map Flow flow) ++ End ∷ [] in
+    omega (arith, lists_fit sets flow has.2 few, total_short total has.0, paid_short paid has.1, length_more (Total total) (Paid paid ∷ lists), length_more (Paid paid) lists)
+text_fits (NoSeries steps) has few = omega (arith, few, steps_short steps has.1, length_both (map Step steps) (End ∷ []))
 
 pub short_texts : ShortTexts
-short_texts = record { set_line = set_short; flow_line = flow_short; step_line = step_short; text = text_short; readable = omega arith }
+short_texts = record { set_line = set_short; flow_line = flow_short; step_line = step_short; text = text_short; readable = text_fits }

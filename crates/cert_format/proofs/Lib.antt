@@ -10,5 +10,6 @@ pub mod Numbers
 pub mod OneAnswer
 pub mod Pushed
 pub mod Refusals
+pub mod Sets
 pub mod Texts
 pub mod Words

@@ -37,24 +37,33 @@ RoundTrip = (cert : Cert) → HasText cert
 abbrev pub HasShortValue : SetLine → Type 0
 HasShortValue line = unsigned_abs line.value ≤ 10 ^ 15
 
--- below 4,000,000,000
+-- of at most ten digits
 abbrev pub HasShortAmount : FlowItem → Type 0
-HasShortAmount item = unsigned_abs item.amount < 4000000000
+HasShortAmount item = unsigned_abs item.amount < 10 ^ 10
 
-abbrev pub AreShortLists : List SetLine → List FlowItem → Type 0
-AreShortLists sets flow = (length sets ≤ 400000) × AllByRecursion HasShortValue sets × (length flow ≤ 4000000) × AllByRecursion HasShortAmount flow
+abbrev pub AreFew : List SetLine → List FlowItem → Type 0
+AreFew sets flow = (length sets ≤ 400000) × (length flow ≤ 4000000)
+
+abbrev pub AreShort : List SetLine → List FlowItem → Type 0
+AreShort sets flow = AllByRecursion HasShortValue sets × AllByRecursion HasShortAmount flow
 
 -- at most 400,000 set lines and 4,000,000 flow lines or steps
 abbrev pub HasFewLines : Cert → Type 0
-HasFewLines (Repair total sets flow) = AreShortLists sets flow
-HasFewLines (Priced total paid sets flow) = AreShortLists sets flow
+HasFewLines (Repair total sets flow) = AreFew sets flow
+HasFewLines (Priced total paid sets flow) = AreFew sets flow
 HasFewLines (NoSeries steps) = length steps ≤ 4000000
 
--- With its line feed a set line has at most 33 bytes, a flow line 44 and a step line 33; and with few enough of them the
--- text has less than 190,000,000 bytes, which are not too many to be read.
+-- values of at most 10^15 in size, and amounts of at most ten digits
+abbrev pub HasShortLines : Cert → Type 0
+HasShortLines (Repair total sets flow) = AreShort sets flow
+HasShortLines (Priced total paid sets flow) = AreShort sets flow
+HasShortLines (NoSeries steps) = Unit {0}
+
+-- With its line feed a short set line has at most 33 bytes, a short flow line 44 and a step line 33. A text of few lines is
+-- not too long to be read, and where they are short it has less than 190,000,000 bytes.
 pub record ShortTexts : Type 0 where
   pub set_line : (line : SetLine) → IsSet line → HasShortValue line → length (text_of_line (Set line)) < 33
   pub flow_line : (item : FlowItem) → IsItem item → HasShortAmount item → length (text_of_line (Flow item)) < 44
   pub step_line : (name : BoundName) → IsName name → length (text_of_line (Step name)) < 33
-  pub text : (cert : Cert) → HasText cert → HasFewLines cert → length (text_of_cert cert) < 190000000
-  pub readable : 190000000 ≤ LONGEST
+  pub text : (cert : Cert) → HasText cert → HasFewLines cert → HasShortLines cert → length (text_of_cert cert) < 190000000
+  pub readable : (cert : Cert) → HasText cert → HasFewLines cert → length (text_of_cert cert) ≤ LONGEST

@@ -5,4 +5,5 @@ pub mod Laws
 pub mod Line
 pub mod Order
 pub mod Reads
+pub mod Sets
 pub mod Words

@@ -1,5 +1,6 @@
 //! Laws of certificates and their texts.
 ghost use Rattle.cert_format.specs.Laws.{OneAnswer, AnAnswer, OneSpelling, RoundTrip, ShortTexts};
+ghost use Rattle.cert_format.specs.Sets.{SetsTellSeries};
 
 /// A text has one answer only: one certificate, or one refused line.
 pub fn one_answer()
@@ -24,4 +25,9 @@ pub fn round_trip()
 /// Lines are short, and the text of a certificate of as many lines as a repair can have is not too long to be read.
 pub fn short_texts()
     ensures { ShortTexts }
+{}
+
+/// The set lines of a series give the series again, where no two readings share a place.
+pub fn sets_tell_series()
+    ensures { SetsTellSeries }
 {}

@@ -20,7 +20,7 @@ mod write;
 
 pub use cert::{Cert, SetLine, SetList};
 pub use fault::CertRead;
-pub use laws::{an_answer, one_answer, one_spelling, round_trip, short_texts};
+pub use laws::{an_answer, one_answer, one_spelling, round_trip, sets_tell_series, short_texts};
 pub use limits::{LONGEST, MOST_AMOUNT, MOST_RULE, TOTAL_DIGITS, VALUE_DIGITS};
 pub use line::{Line, Version};
 pub use read::read_cert;

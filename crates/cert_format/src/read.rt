@@ -28,7 +28,7 @@ pub fn read_cert(alloc: Global, bytes: &[u8]) -> Result<Cert, CertRead>
     ensures refused { IfErr result (λ fault. fault ≢ CertRead.Memory → Refuses bytes.now fault) }
     ensures only { (answer : Result Cert CertRead) → Reads bytes.now answer → UnlessMemory CertRead.Memory (λ given. given ≡ answer) result }
 {
-    // The law behind `only`; it does nothing.
+    // The law that shows `only`; it does nothing.
     one_answer();
     let mut draft = Draft::Empty;
     let mut rest = bytes;

@@ -1,8 +1,10 @@
 -- The laws of what commands answer.
 use Rattle.std.proofs.Common.{◌≡◌, ◌≢◌, inl, inr, ℕ, ℤ, List, Option, Some, None, Ok, refl, sym, ap, subst, ◌∙◌, length, ◌≤◌, ◌+◌}
-use Rattle.bound_maker.specs.declared.maker.TheConstants.{MOST_BOUNDS}
-use Rattle.bound_maker.specs.Bounds.{made_bounds}
 use Rattle.bound_maker.specs.Costs.{whole_problem}
+use Rattle.cert_check.specs.Judges.{Judges}
+use Rattle.cert_check.specs.declared.accepted.Accepted.{Accepted}
+use Rattle.cert_check.specs.declared.fault.CertFault.{CertFault}
+use Rattle.cert_format.specs.declared.limits.TheConstants.{LONGEST as longest_cert}
 use Rattle.least_cost.specs.declared.outcome.Outcome.{Outcome as Found}
 use Rattle.least_cost.specs.declared.outcome.Outcome.TheVariants as found
 use Rattle.least_cost.specs.Answer.{Answers as AnswersProblem}
@@ -17,19 +19,21 @@ use Rattle.series_csv.specs.Text.{table_text}
 use Rattle.series_csv.specs.declared.table.TheConstants.{LONGEST as longest_readings}
 use Rattle.series_rows.specs.declared.fault.TableFault.{TableFault}
 use Rattle.screen_tool.specs.declared.command.Command.{Command}
-use Rattle.screen_tool.specs.declared.command.Command.TheVariants.{Global}
+use Rattle.screen_tool.specs.declared.command.Command.TheVariants.{Check, Global}
 use Rattle.screen_tool.specs.declared.ends.Inputs.{Inputs}
-use Rattle.screen_tool.specs.Answer.{Extent, Whole, Begun, Unread, Answer, AreFronts}
+use Rattle.screen_tool.specs.Answer.{Extent, Whole, Unread, Answer, AreFront, AreFronts}
 use Rattle.screen_tool.specs.Answers.{Answers, AnswersBy, OneOutcome, OneText, RestsOnRead}
-use Rattle.screen_tool.specs.Files.{RulesAreOne, ReadingsAreOne, AfterRules, AfterReadings, HasFewBounds, rules_too_long, rules_refused, readings_too_long, readings_refused, too_many_bounds}
+use Rattle.screen_tool.specs.Check.{AnswersCheck, AnswersCheckBy, check_text}
+use Rattle.screen_tool.specs.Checked.{AfterCert, AnswersChecked, CertsAreOne, accepted_answer, cert_refused, cert_too_long}
+use Rattle.screen_tool.specs.Files.{RulesAreOne, ReadingsAreOne, AfterBounds, HasFewBounds, rules_too_long, rules_refused, readings_too_long, readings_refused, too_many_bounds}
 use Rattle.screen_tool.specs.Global.{AnswersGlobal, AnswersGlobalBy, AnswersTableBy, AnswersBoundsBy, answer_of}
-use Rattle.screen_tool.specs.Performance.{IsAnswerTo}
-use Rattle.screen_tool.proofs.AfterFile.{more_and_not, after_accepted, after_follows, after_has, after_one, after_rests}
+use Rattle.screen_tool.proofs.AfterFile.{after_accepted, after_follows, after_has, after_one, after_rests}
+use Rattle.screen_tool.proofs.BothFiles.{begun_not_unread, both_accepted, both_follow, both_have, both_one, both_rest, bounds_few, bounds_follow, bounds_have, bounds_one, whole_not_unread}
+
+-- ---- what every answer of `global` has
 
 abbrev pub both_read : Inputs Extent
 both_read = record { rules = Whole; readings = Whole; cert = Unread }
-
--- ---- what every answer of `global` has
 
 pub found_reads : (rules : Rules) (table : TableView) (outcome : Found) → (answer_of rules table outcome).read ≡ both_read
 found_reads rules table (found.Repaired series flow total paid changes) = refl
@@ -38,100 +42,129 @@ found_reads rules table (found.NoSeries cycle) = refl
 module _ (Counts : Problem → Found → Type 0) where
   table_has : (P : Answer → Type 0) (rules : Rules) (table : TableView) (answer : Answer)
       → P too_many_bounds → ((outcome : Found) → P (answer_of rules table outcome)) → AnswersTableBy Counts rules table answer → P answer
-  table_has P rules table answer at_many at_found (inl p) = subst P (sym p.1) at_many
-  table_has P rules table answer at_many at_found (inr p) = subst P (sym p.1.3) (at_found p.1.0)
-
-  readings_have : (P : Answer → Type 0) (rules : Rules) (bytes : List ℕ) (answer : Answer)
-      → P readings_too_long → ((fault : TableFault) → P (readings_refused fault)) → P too_many_bounds
-      → ((table : TableView) (outcome : Found) → P (answer_of rules table outcome))
-      → AfterReadings rules bytes (AnswersTableBy Counts rules) answer → P answer
-  readings_have P rules bytes answer at_long at_refused at_many at_found =
-      after_has longest_readings (ReadsTable rules) readings_too_long readings_refused P bytes (AnswersTableBy Counts rules) answer at_long at_refused
-      (λ table. table_has P rules table answer at_many (at_found table))
+  table_has P rules table answer at_many at_found =
+      bounds_have rules table P (AnswersBoundsBy Counts rules table) answer at_many (λ p. subst P (sym p.3) (at_found p.0))
 
   pub global_has : (P : Answer → Type 0) (bytes : Inputs (List ℕ)) (answer : Answer)
       → P rules_too_long → ((fault : RuleFault) → P (rules_refused fault)) → P readings_too_long → ((fault : TableFault) → P (readings_refused fault))
       → P too_many_bounds → ((rules : Rules) (table : TableView) (outcome : Found) → P (answer_of rules table outcome)) → AnswersGlobalBy Counts bytes answer → P answer
   global_has P bytes answer at_long at_refused table_long table_refused at_many at_found =
-      after_has longest_rules ReadsFile rules_too_long rules_refused P bytes.rules (λ rules. AfterReadings rules bytes.readings (AnswersTableBy Counts rules)) answer
-      at_long at_refused (λ rules. readings_have P rules bytes.readings answer table_long table_refused at_many (at_found rules))
+      both_have P (λ rules table cert. AnswersTableBy Counts rules table) bytes answer at_long at_refused table_long table_refused
+      (λ rules table. table_has P rules table answer at_many (at_found rules table))
 
   -- every answer over a table comes of both files
   pub reads_both : (rules : Rules) (table : TableView) (answer : Answer) → AnswersTableBy Counts rules table answer → answer.read ≡ both_read
   reads_both rules table answer = table_has (λ a. a.read ≡ both_read) rules table answer refl (found_reads rules table)
 
+  pub global_wholly : (rules : Rules) (table : TableView) (cert : List ℕ) (answer : Answer) → AnswersTableBy Counts rules table answer → (answer.read.rules ≡ Whole) × (answer.read.readings ≡ Whole)
+  global_wholly rules table cert answer p =
+      let read = reads_both rules table answer p in (ap (λ (r : Inputs Extent). r.rules) read, ap (λ (r : Inputs Extent). r.readings) read)
+
   -- where the bounds are few the answer is one of those that follow
   pub bounds_answer : (rules : Rules) (table : TableView) (answer : Answer) → HasFewBounds rules table → AnswersTableBy Counts rules table answer → AnswersBoundsBy Counts rules table answer
-  bounds_answer rules table answer few (inl p) = absurd (more_and_not MOST_BOUNDS (length (made_bounds rules table)) p.0 few)
-  bounds_answer rules table answer few (inr p) = p.1
+  bounds_answer rules table answer few = bounds_few rules table (AnswersBoundsBy Counts rules table) answer few
 
-  -- ---- an answer rests on what was read
-
-  readings_rest : (rules : Rules) (came bytes : Inputs (List ℕ)) (answer : Answer) → AreFronts answer.read came bytes
-      → AfterReadings rules came.readings (AnswersTableBy Counts rules) answer → AfterReadings rules bytes.readings (AnswersTableBy Counts rules) answer
-  readings_rest rules came bytes answer fronts =
-      after_rests longest_readings (ReadsTable rules) readings_too_long readings_refused (λ a. a.read.readings) (longest_readings + 1) came.readings bytes.readings
-      (AnswersTableBy Counts rules) (AnswersTableBy Counts rules) answer refl (λ fault. refl)
-      (λ table p. ap (λ (read : Inputs Extent). read.readings) (reads_both rules table answer p)) (λ table p. p) fronts.1
-
+  -- an answer rests on what was read
   pub global_rests : (came bytes : Inputs (List ℕ)) (answer : Answer) → AreFronts answer.read came bytes → AnswersGlobalBy Counts came answer → AnswersGlobalBy Counts bytes answer
   global_rests came bytes answer fronts =
-      after_rests longest_rules ReadsFile rules_too_long rules_refused (λ a. a.read.rules) (longest_rules + 1) came.rules bytes.rules
-      (λ rules. AfterReadings rules came.readings (AnswersTableBy Counts rules)) (λ rules. AfterReadings rules bytes.readings (AnswersTableBy Counts rules)) answer refl (λ fault. refl)
-      (λ rules. readings_have (λ a. a.read.rules ≡ Whole) rules came.readings answer refl (λ fault. refl) refl
-      (λ table outcome. ap (λ (read : Inputs Extent). read.rules) (found_reads rules table outcome)))
-      (λ rules. readings_rest rules came bytes answer fronts) fronts.0
+      both_rest (λ rules table cert. AnswersTableBy Counts rules table) global_wholly (λ rules table cert. AnswersTableBy Counts rules table) came bytes answer fronts (λ rules table p. p)
 
-  -- ---- what is counted may be left out
-
+  -- what is counted may be left out
   table_any : (rules : Rules) (table : TableView) (answer : Answer) → AnswersTableBy Counts rules table answer → AnswersTableBy (λ problem outcome. Unit {0}) rules table answer
   table_any rules table answer (inl p) = inl p
   table_any rules table answer (inr p) = inr (p.0, (p.1.0, p.1.1, tt, p.1.3))
 
-  global_any : (bytes : Inputs (List ℕ)) (answer : Answer) → AnswersGlobalBy Counts bytes answer → AnswersGlobal bytes answer
+  pub global_any : (bytes : Inputs (List ℕ)) (answer : Answer) → AnswersGlobalBy Counts bytes answer → AnswersGlobal bytes answer
   global_any bytes answer =
-      after_follows longest_rules ReadsFile rules_too_long rules_refused bytes.rules
-      (λ rules. AfterReadings rules bytes.readings (AnswersTableBy Counts rules)) (λ rules. AfterReadings rules bytes.readings (AnswersTableBy (λ problem outcome. Unit {0}) rules)) answer
-      (λ rules. after_follows longest_readings (ReadsTable rules) readings_too_long readings_refused bytes.readings
-      (AnswersTableBy Counts rules) (AnswersTableBy (λ problem outcome. Unit {0}) rules) answer (λ table. table_any rules table answer))
+      both_follow (λ rules table cert. AnswersTableBy Counts rules table) (λ rules table cert. AnswersTableBy (λ problem outcome. Unit {0}) rules table) bytes answer
+      (λ rules table. table_any rules table answer)
 
-  pub any_answer : (command : Option Command) (bytes : Inputs (List ℕ)) (answer : Answer) → AnswersBy Counts command bytes answer → Answers command bytes answer
-  any_answer (Some Global) bytes answer p = global_any bytes answer p
-  any_answer None bytes answer p = p
+-- ---- what every answer of a command has that checks a certificate
 
--- ---- the sources that `global` needs
+module _ (Holds : Rules → TableView → Accepted → Type 0) (text : Rules → TableView → Accepted → List ℕ) where
+  abbrev After : Rules → TableView → List ℕ → Answer → Type 0
+  After rules table cert = AfterBounds rules table (AfterCert Holds text rules table cert)
+
+  abbrev Accepts : Rules → TableView → Accepted → Answer → Type 0
+  Accepts rules table accepted answer = Holds rules table accepted × (answer ≡ accepted_answer (text rules table accepted))
+
+  pub cert_has : (P : Answer → Type 0) (rules : Rules) (table : TableView) (cert : List ℕ) (answer : Answer)
+      → P cert_too_long → ((fault : CertFault) → P (cert_refused fault)) → ((written : List ℕ) → P (accepted_answer written)) → AfterCert Holds text rules table cert answer → P answer
+  cert_has P rules table cert answer at_long at_refused at_accepted =
+      after_has longest_cert (Judges rules table) cert_too_long cert_refused P cert (Accepts rules table) answer at_long at_refused
+      (λ accepted p. subst P (sym p.1) (at_accepted (text rules table accepted)))
+
+  checked_table_has : (P : Answer → Type 0) (rules : Rules) (table : TableView) (cert : List ℕ) (answer : Answer)
+      → P too_many_bounds → P cert_too_long → ((fault : CertFault) → P (cert_refused fault)) → ((written : List ℕ) → P (accepted_answer written)) → After rules table cert answer → P answer
+  checked_table_has P rules table cert answer at_many at_long at_refused at_accepted =
+      bounds_have rules table P (AfterCert Holds text rules table cert) answer at_many (cert_has P rules table cert answer at_long at_refused at_accepted)
+
+  pub checked_has : (P : Answer → Type 0) (bytes : Inputs (List ℕ)) (answer : Answer)
+      → P rules_too_long → ((fault : RuleFault) → P (rules_refused fault)) → P readings_too_long → ((fault : TableFault) → P (readings_refused fault))
+      → P too_many_bounds → P cert_too_long → ((fault : CertFault) → P (cert_refused fault)) → ((written : List ℕ) → P (accepted_answer written)) → AnswersChecked Holds text bytes answer → P answer
+  checked_has P bytes answer at_long at_refused table_long table_refused at_many cert_long at_cert at_accepted =
+      both_have P After bytes answer at_long at_refused table_long table_refused
+      (λ rules table. checked_table_has P rules table bytes.cert answer at_many cert_long at_cert at_accepted)
+
+  pub checked_wholly : (rules : Rules) (table : TableView) (cert : List ℕ) (answer : Answer) → After rules table cert answer → (answer.read.rules ≡ Whole) × (answer.read.readings ≡ Whole)
+  checked_wholly rules table cert answer =
+      checked_table_has (λ a. (a.read.rules ≡ Whole) × (a.read.readings ≡ Whole)) rules table cert answer (refl, refl) (refl, refl) (λ fault. (refl, refl)) (λ written. (refl, refl))
+
+  -- over accepted files with few bounds the answer comes of the certificate
+  pub checked_cert : RulesAreOne → ReadingsAreOne → (bytes : Inputs (List ℕ)) (rules : Rules) (table : TableView) (answer : Answer)
+      → length bytes.rules ≤ longest_rules → ReadsFile bytes.rules (Ok rules) → length bytes.readings ≤ longest_readings → ReadsTable rules bytes.readings (Ok table) → HasFewBounds rules table
+      → AnswersChecked Holds text bytes answer → AfterCert Holds text rules table bytes.cert answer
+  checked_cert rules_one readings_one bytes rules table answer short reads short_readings reads_table few p =
+      bounds_few rules table (AfterCert Holds text rules table bytes.cert) answer few
+      (both_accepted After rules_one readings_one bytes rules table answer short reads short_readings reads_table p)
+
+  pub needs_cert : RulesAreOne → ReadingsAreOne → (came came_readings : List ℕ) (rules : Rules) (table : TableView)
+      → length came ≤ longest_rules → ReadsFile came (Ok rules) → length came_readings ≤ longest_readings → ReadsTable rules came_readings (Ok table) → HasFewBounds rules table
+      → (bytes : Inputs (List ℕ)) (answer : Answer) → bytes.rules ≡ came → bytes.readings ≡ came_readings → AnswersChecked Holds text bytes answer → answer.read.cert ≢ Unread
+  needs_cert rules_one readings_one came came_readings rules table short reads short_readings reads_table few bytes answer same same_readings p =
+      cert_has (λ a. a.read.cert ≢ Unread) rules table bytes.cert answer begun_not_unread (λ fault. whole_not_unread) (λ written. whole_not_unread)
+      (checked_cert rules_one readings_one bytes rules table answer (subst (λ (b : List ℕ). length b ≤ longest_rules) (sym same) short) (subst (λ (b : List ℕ). ReadsFile b (Ok rules)) (sym same) reads)
+      (subst (λ (b : List ℕ). length b ≤ longest_readings) (sym same_readings) short_readings) (subst (λ (b : List ℕ). ReadsTable rules b (Ok table)) (sym same_readings) reads_table) few p)
+
+  -- an answer rests on what was read
+  cert_rests : (rules : Rules) (table : TableView) (came bytes : List ℕ) (answer : Answer) → AreFront answer.read.cert came bytes
+      → AfterCert Holds text rules table came answer → AfterCert Holds text rules table bytes answer
+  cert_rests rules table came bytes answer front =
+      after_rests longest_cert (Judges rules table) cert_too_long cert_refused (λ a. a.read.cert) (longest_cert + 1) came bytes (Accepts rules table) (Accepts rules table) answer refl (λ fault. refl)
+      (λ accepted p. ap (λ (a : Answer). a.read.cert) p.1) (λ accepted p. p) front
+
+  pub checked_rests : (came bytes : Inputs (List ℕ)) (answer : Answer) → AreFronts answer.read came bytes → AnswersChecked Holds text came answer → AnswersChecked Holds text bytes answer
+  checked_rests came bytes answer fronts =
+      both_rest After checked_wholly After came bytes answer fronts
+      (λ rules table. bounds_follow rules table (AfterCert Holds text rules table came.cert) (AfterCert Holds text rules table bytes.cert) answer (cert_rests rules table came.cert bytes.cert answer fronts.2))
+
+  -- a part of all answers is one only
+  pub checked_one : {B : Type 0} (part : Answer → B) → RulesAreOne → ReadingsAreOne → CertsAreOne → (bytes : Inputs (List ℕ)) (one other : Answer)
+      → AnswersChecked Holds text bytes one → AnswersChecked Holds text bytes other → part one ≡ part other
+  checked_one part rules_one readings_one certs_one bytes =
+      both_one part After rules_one readings_one bytes
+      (λ rules table. bounds_one rules table part (AfterCert Holds text rules table bytes.cert)
+      (after_one longest_cert (Judges rules table) cert_too_long cert_refused part (certs_one rules table) bytes.cert (Accepts rules table) (λ accepted one other p q. ap part (p.1 ∙ sym q.1))))
+
+-- what is asked of an accepted claim beside may be left out
+pub checked_any : (Holds : Rules → TableView → Accepted → Type 0) (text : Rules → TableView → Accepted → List ℕ) (bytes : Inputs (List ℕ)) (answer : Answer)
+    → AnswersChecked Holds text bytes answer → AnswersChecked (λ rules table accepted. Unit {0}) text bytes answer
+checked_any Holds text bytes answer =
+    both_follow (After Holds text) (After (λ rules table accepted. Unit {0}) text) bytes answer
+    (λ rules table. bounds_follow rules table (AfterCert Holds text rules table bytes.cert) (AfterCert (λ rules table accepted. Unit {0}) text rules table bytes.cert) answer
+    (after_follows longest_cert (Judges rules table) cert_too_long cert_refused bytes.cert (Accepts Holds text rules table) (Accepts (λ rules table accepted. Unit {0}) text rules table) answer
+    (λ accepted p. (tt, p.1))))
+
+pub any_answer : (Counts : Problem → Found → Type 0) (Holds : Rules → TableView → Accepted → Type 0) (command : Option Command) (bytes : Inputs (List ℕ)) (answer : Answer)
+    → AnswersBy Counts Holds command bytes answer → Answers command bytes answer
+any_answer Counts Holds (Some Global) bytes answer p = global_any Counts bytes answer p
+any_answer Counts Holds (Some Check) bytes answer p = checked_any Holds (λ rules table. check_text) bytes answer p
+any_answer Counts Holds None bytes answer p = p
+
+-- ---- one outcome, and one text
 
 abbrev Any : Problem → Found → Type 0
 Any problem outcome = Unit {0}
-
-whole_not_unread : Whole ≢ Unread
-whole_not_unread e = cc
-
-begun_not_unread : {count : ℕ} → Begun count ≢ Unread
-begun_not_unread e = cc
-
-found_needs_rules : (rules : Rules) (table : TableView) (outcome : Found) → (answer_of rules table outcome).read.rules ≢ Unread
-found_needs_rules rules table outcome e = whole_not_unread (sym (ap (λ (read : Inputs Extent). read.rules) (found_reads rules table outcome)) ∙ e)
-
-found_needs_readings : (rules : Rules) (table : TableView) (outcome : Found) → (answer_of rules table outcome).read.readings ≢ Unread
-found_needs_readings rules table outcome e = whole_not_unread (sym (ap (λ (read : Inputs Extent). read.readings) (found_reads rules table outcome)) ∙ e)
-
-pub needs_rules : (bytes : Inputs (List ℕ)) (answer : Answer) → AnswersGlobal bytes answer → answer.read.rules ≢ Unread
-needs_rules bytes answer p =
-    global_has Any (λ a. a.read.rules ≢ Unread) bytes answer begun_not_unread (λ fault. whole_not_unread) whole_not_unread (λ fault. whole_not_unread) whole_not_unread
-    found_needs_rules p
-
-pub needs_readings : RulesAreOne → (came : List ℕ) (rules : Rules) → length came ≤ longest_rules → ReadsFile came (Ok rules)
-    → (bytes : Inputs (List ℕ)) (answer : Answer) → bytes.rules ≡ came → AnswersGlobal bytes answer → answer.read.readings ≢ Unread
-needs_readings law came rules short reads bytes answer same p =
-    let q : AfterReadings rules bytes.readings (AnswersTableBy Any rules) answer =
-    after_accepted longest_rules ReadsFile rules_too_long rules_refused law came rules (λ rules. AfterReadings rules bytes.readings (AnswersTableBy Any rules)) answer short reads
-    (subst (λ (b : List ℕ). AfterRules b (λ rules. AfterReadings rules bytes.readings (AnswersTableBy Any rules)) answer) same p)
-    in
-    readings_have Any (λ a. a.read.readings ≢ Unread) rules bytes.readings answer begun_not_unread (λ fault. whole_not_unread) whole_not_unread
-    (found_needs_readings rules) q
-
--- ---- one outcome, and one text
 
 found_outcome : (rules : Rules) (table : TableView) (one other : Found) → AnswersProblem (whole_problem rules table) one → AnswersProblem (whole_problem rules table) other
     → (answer_of rules table one).outcome ≡ (answer_of rules table other).outcome
@@ -152,32 +185,28 @@ found_text law rules table (found.NoSeries cycle) (found.NoSeries other) a b = r
 module _ {B : Type 0} (part : Answer → B)
     (same : (rules : Rules) (table : TableView) (one other : Found) → AnswersProblem (whole_problem rules table) one → AnswersProblem (whole_problem rules table) other
     → part (answer_of rules table one) ≡ part (answer_of rules table other)) where
-  table_one : (rules : Rules) (table : TableView) (one other : Answer) → AnswersTableBy Any rules table one → AnswersTableBy Any rules table other → part one ≡ part other
-  table_one rules table one other (inl p) (inl q) = ap part (p.1 ∙ sym q.1)
-  table_one rules table one other (inl p) (inr q) = absurd (more_and_not MOST_BOUNDS (length (made_bounds rules table)) p.0 q.0)
-  table_one rules table one other (inr p) (inl q) = absurd (more_and_not MOST_BOUNDS (length (made_bounds rules table)) q.0 p.0)
-  table_one rules table one other (inr p) (inr q) = ap part p.1.3 ∙ (same rules table p.1.0 q.1.0 p.1.1.whole q.1.1.whole ∙ sym (ap part q.1.3))
+  found_one : (rules : Rules) (table : TableView) (one other : Answer) → AnswersBoundsBy Any rules table one → AnswersBoundsBy Any rules table other → part one ≡ part other
+  found_one rules table one other p q = ap part p.3 ∙ (same rules table p.0 q.0 p.1.whole q.1.whole ∙ sym (ap part q.3))
 
   global_one : RulesAreOne → ReadingsAreOne → (bytes : Inputs (List ℕ)) (one other : Answer) → AnswersGlobal bytes one → AnswersGlobal bytes other → part one ≡ part other
   global_one rules_one readings_one bytes =
-      after_one longest_rules ReadsFile rules_too_long rules_refused part rules_one bytes.rules (λ rules. AfterReadings rules bytes.readings (AnswersTableBy Any rules))
-      (λ rules. after_one longest_readings (ReadsTable rules) readings_too_long readings_refused part (readings_one rules) bytes.readings (AnswersTableBy Any rules) (table_one rules))
+      both_one part (λ rules table cert. AnswersTableBy Any rules table) rules_one readings_one bytes
+      (λ rules table. bounds_one rules table part (AnswersBoundsBy Any rules table) (found_one rules table))
 
-  pub part_one : RulesAreOne → ReadingsAreOne → (command : Option Command) (bytes : Inputs (List ℕ)) (one other : Answer) → Answers command bytes one → Answers command bytes other → part one ≡ part other
-  part_one rules_one readings_one (Some Global) bytes one other p q = global_one rules_one readings_one bytes one other p q
-  part_one rules_one readings_one None bytes one other p q = ap part (p ∙ sym q)
+  pub part_one : RulesAreOne → ReadingsAreOne → CertsAreOne → (command : Option Command) (bytes : Inputs (List ℕ)) (one other : Answer)
+      → Answers command bytes one → Answers command bytes other → part one ≡ part other
+  part_one rules_one readings_one certs_one (Some Global) bytes one other p q = global_one rules_one readings_one bytes one other p q
+  part_one rules_one readings_one certs_one (Some Check) bytes one other p q =
+      checked_one (λ rules table accepted. Unit {0}) (λ rules table. check_text) part rules_one readings_one certs_one bytes one other p q
+  part_one rules_one readings_one certs_one None bytes one other p q = ap part (p ∙ sym q)
 
-pub outcomes_one : RulesAreOne → ReadingsAreOne → OneOutcome
-outcomes_one rules_one readings_one = part_one (λ (a : Answer). a.outcome) found_outcome rules_one readings_one
+pub outcomes_one : RulesAreOne → ReadingsAreOne → CertsAreOne → OneOutcome
+outcomes_one rules_one readings_one certs_one = part_one (λ (a : Answer). a.outcome) found_outcome rules_one readings_one certs_one
 
-pub texts_one : RulesAreOne → ReadingsAreOne → RepairIsOne → OneText
-texts_one rules_one readings_one repair_one = part_one (λ (a : Answer). a.out) (found_text repair_one) rules_one readings_one
+pub texts_one : RulesAreOne → ReadingsAreOne → CertsAreOne → RepairIsOne → OneText
+texts_one rules_one readings_one certs_one repair_one = part_one (λ (a : Answer). a.out) (found_text repair_one) rules_one readings_one certs_one
 
 pub rests : RestsOnRead
 rests (Some Global) came bytes answer p fronts = global_rests Any came bytes answer fronts p
+rests (Some Check) came bytes answer p fronts = checked_rests (λ rules table accepted. Unit {0}) (λ rules table. check_text) came bytes answer fronts p
 rests None came bytes answer p fronts = p
-
--- there is one command
-pub of_global : (Counts : Problem → Found → Type 0) (command : Command) (P : IsAnswerTo → IsAnswerTo → Type 0)
-    → P (AnswersGlobalBy Counts) AnswersGlobal → P (AnswersBy Counts (Some command)) (Answers (Some command))
-of_global Counts Global P p = p

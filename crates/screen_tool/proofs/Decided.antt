@@ -1,9 +1,13 @@
 -- The headline, from what was performed.
 use Rattle.std.proofs.Common.{◌≡◌, ◌≢◌, inl, inr, ℕ, ℤ, pos, ◌≤◌, List, [], length, Option, Some, None, Ok, IfSome, refl, sym, ap, subst, ◌∙◌}
 use Rattle.bound_maker.specs.Costs.{made_problem, whole_problem}
+use Rattle.cert_check.specs.Judges.{Judges}
+use Rattle.cert_check.specs.declared.accepted.Accepted.TheVariants as accepted
 use Rattle.cert_format.specs.declared.cert.Cert.{Cert}
 use Rattle.cert_format.specs.Cert.{HasText, text_of_cert}
 use Rattle.cert_format.specs.Reads.{Spells as SpellsCert}
+use Rattle.cert_format.specs.Sets.{sets_of}
+use Rattle.cert_format.proofs.Sets.{tells}
 use Rattle.least_cost.specs.Answer.{CountsChanges}
 use Rattle.least_cost.specs.declared.outcome.Outcome.{Outcome as Found}
 use Rattle.least_cost.specs.declared.outcome.Outcome.TheVariants as found
@@ -30,16 +34,15 @@ use Rattle.screen_tool.specs.declared.status.Outcome.TheVariants as outcome
 use Rattle.screen_tool.specs.declared.status.Status.{Status}
 use Rattle.screen_tool.specs.declared.status.Status.TheVariants as status
 use Rattle.screen_tool.specs.Answer.{Answer}
-use Rattle.screen_tool.specs.Certificates.{cert_of, repair_cert, sets_of}
+use Rattle.screen_tool.specs.Certificates.{cert_of, repair_cert}
 use Rattle.screen_tool.specs.Command.{roles_of}
 use Rattle.screen_tool.specs.Ending.{outcome_status, status_of}
-use Rattle.screen_tool.specs.Files.{RulesAreOne, ReadingsAreOne, AfterReadings, rules_too_long, rules_refused, readings_too_long, readings_refused}
+use Rattle.screen_tool.specs.Files.{RulesAreOne, ReadingsAreOne}
 use Rattle.screen_tool.specs.Global.{AnswersGlobal, AnswersGlobalBy, AnswersTableBy, AnswersBoundsBy, IsFoundFor, answer_of}
 use Rattle.screen_tool.specs.Headline.{CountsReadFault, CountsWriteFault, Headline, IsApartFromFaults, ShowsCycle, ShowsRepair, SomeObeys, WritesCycle, WritesRepair}
 use Rattle.screen_tool.specs.Performance.{IsAnswered, LeavesSinks, IsWritten, AreWritten, IsCut, AreCut, Performs, AreTold}
-use Rattle.screen_tool.proofs.AfterFile.{after_accepted}
-use Rattle.screen_tool.proofs.AnswerLaws.{any_answer, bounds_answer, global_has, global_rests}
-use Rattle.screen_tool.proofs.Changed.{tells}
+use Rattle.screen_tool.proofs.AnswerLaws.{bounds_answer, global_any, global_has, global_rests}
+use Rattle.screen_tool.proofs.BothFiles.{both_accepted}
 use Rattle.screen_tool.proofs.Due.{cert_unread, front, readings_unread, rules_unread}
 
 -- ---- what is found is what the headline says
@@ -55,11 +58,17 @@ spells_same : (rules : Rules) (cert : Cert) (total paid_total all_paid broken_pa
 spells_same rules cert total paid_total all_paid broken_paid make p q s =
     subst (λ (t : ℤ). SpellsCert (text_of_cert cert) (make t broken_paid)) p (subst (λ (t : ℤ). SpellsCert (text_of_cert cert) (make total t)) q s)
 
+accepted_same : (rules : Rules) (table : TableView) (certificate : List ℕ) (series : List ℤ) (flow : List FlowItem) (total paid_total all_paid broken_paid : ℤ) → total ≡ all_paid → paid_total ≡ broken_paid
+    → Judges rules table certificate (Ok (accepted.Repair series flow total paid_total)) → Judges rules table certificate (Ok (accepted.Repair series flow all_paid broken_paid))
+accepted_same rules table certificate series flow total paid_total all_paid broken_paid p q judged =
+    subst (λ (t : ℤ). Judges rules table certificate (Ok (accepted.Repair series flow t broken_paid))) p
+    (subst (λ (t : ℤ). Judges rules table certificate (Ok (accepted.Repair series flow total t))) q judged)
+
 module _ {K : Type 0} (held : K → Option (List ℕ)) (sink_faults : K → ℕ) where
-  gained : (text : Option (List ℕ)) (whole : List ℕ) (sink now : K) → text ≡ Some whole → IsWritten held sink_faults text sink now → Gains (held sink) whole (held now)
+  pub gained : (text : Option (List ℕ)) (whole : List ℕ) (sink now : K) → text ≡ Some whole → IsWritten held sink_faults text sink now → Gains (held sink) whole (held now)
   gained text whole sink now p written = (subst (λ (t : Option (List ℕ)). IsWritten held sink_faults t sink now) p written).0
 
-  not_written : (text : Option (List ℕ)) (sink now : K) → text ≡ None → IsWritten held sink_faults text sink now → now ≡ sink
+  pub not_written : (text : Option (List ℕ)) (sink now : K) → text ≡ None → IsWritten held sink_faults text sink now → now ≡ sink
   not_written text sink now p written = subst (λ (t : Option (List ℕ)). IsWritten held sink_faults t sink now) p written
 
 module _ (rules : Rules) (table : TableView) where
@@ -78,11 +87,12 @@ module _ (rules : Rules) (table : TableView) where
         tells = tells (places table) (values table) series sound.distinct sound.valued is.whole.best.best.whole;
         best = is.whole.best;
         repair = is.whole.repair;
+        accepted = accepted_same rules table (text_of_cert cert) series flow total broken (pos (cost (whole_problem rules table) series)) (pos (paid (whole_problem rules table) series)) is.whole.total is.whole.paid is.accepted;
         written = refl;
       }
 
   shows_cycle : (cycle : List BoundName) → IsFoundFor rules table (found.NoSeries cycle) → ShowsCycle rules table (text_of_cert (cert_of rules table (found.NoSeries cycle)))
-  shows_cycle cycle is = record { steps = cycle; spells = spells (cert_of rules table (found.NoSeries cycle)) is.text; blocked = is.whole.blocked }
+  shows_cycle cycle is = record { steps = cycle; spells = spells (cert_of rules table (found.NoSeries cycle)) is.text; blocked = is.whole.blocked; accepted = is.accepted }
 
   module _ {K : Type 0} (held : K → Option (List ℕ)) (sink_faults : K → ℕ) (outs now : Outputs K) (answer : Answer) where
     writes_repair : (most : ℕ → ℕ → ℕ → ℕ → Option ℕ) (last : ℕ) (outcome_found : Found) → answer ≡ answer_of rules table outcome_found → answer.outcome ≡ outcome.Done
@@ -125,7 +135,7 @@ module _ (rules : Rules) (table : TableView) where
 
 -- ---- what was written
 
-written_counted : {K : Type 0} (held : K → Option (List ℕ)) (sink_faults : K → ℕ) (text : Option (List ℕ)) (sink now : K) → IsCut held sink_faults text sink now → Rose (sink_faults sink) (sink_faults now)
+pub written_counted : {K : Type 0} (held : K → Option (List ℕ)) (sink_faults : K → ℕ) (text : Option (List ℕ)) (sink now : K) → IsCut held sink_faults text sink now → Rose (sink_faults sink) (sink_faults now)
 written_counted held sink_faults (Some text) sink now p = p.1
 written_counted held sink_faults None sink now p = absurd p
 
@@ -145,13 +155,14 @@ no_texts bytes answer p =
 
 -- ---- which ending has which status
 
-is_done : (how : Ending) → status_of how ≡ status.Done → how ≡ ending.Ended outcome.Done
+pub is_done : (how : Ending) → status_of how ≡ status.Done → how ≡ ending.Ended outcome.Done
 is_done (ending.Ended outcome.Done) p = refl
 is_done (ending.Ended outcome.NoSeries) p = cc
 is_done (ending.Ended outcome.Usage) p = cc
 is_done (ending.Ended (outcome.RulesRefused f)) p = cc
 is_done (ending.Ended (outcome.ReadingsRefused f)) p = cc
 is_done (ending.Ended outcome.TooManyBounds) p = cc
+is_done (ending.Ended (outcome.CertRefused f)) p = cc
 is_done ending.ReadFault p = cc
 is_done ending.WriteFault p = cc
 is_done ending.Memory p = cc
@@ -163,32 +174,25 @@ is_none (ending.Ended outcome.Usage) p = cc
 is_none (ending.Ended (outcome.RulesRefused f)) p = cc
 is_none (ending.Ended (outcome.ReadingsRefused f)) p = cc
 is_none (ending.Ended outcome.TooManyBounds) p = cc
+is_none (ending.Ended (outcome.CertRefused f)) p = cc
 is_none ending.ReadFault p = cc
 is_none ending.WriteFault p = cc
 is_none ending.Memory p = cc
 
-rules_short : (bytes : List ℕ) (rules : Rules) → ReadsFile bytes (Ok rules) → length bytes ≤ longest_rules
+pub rules_short : (bytes : List ℕ) (rules : Rules) → ReadsFile bytes (Ok rules) → length bytes ≤ longest_rules
 rules_short bytes rules (inl p) = absurd (cc (p.1))
 rules_short bytes rules (inr p) = p.0
 
-table_short : (rules : Rules) (bytes : List ℕ) (table : TableView) → ReadsTable rules bytes (Ok table) → length bytes ≤ longest_readings
+pub table_short : (rules : Rules) (bytes : List ℕ) (table : TableView) → ReadsTable rules bytes (Ok table) → length bytes ≤ longest_readings
 table_short rules bytes table (inl p) = absurd (cc (p.1))
 table_short rules bytes table (inr p) = p.0
-
--- the answer over accepted files is one of those over their table
-table_answer : (Counts : Problem → Found → Type 0) → RulesAreOne → ReadingsAreOne → (bytes : Inputs (List ℕ)) (rules : Rules) (table : TableView) (answer : Answer)
-    → length bytes.rules ≤ longest_rules → ReadsFile bytes.rules (Ok rules) → length bytes.readings ≤ longest_readings → ReadsTable rules bytes.readings (Ok table)
-    → AnswersGlobalBy Counts bytes answer → AnswersTableBy Counts rules table answer
-table_answer Counts rules_one readings_one bytes rules table answer short spells short_readings reads p =
-    after_accepted longest_readings (ReadsTable rules) readings_too_long readings_refused (readings_one rules) bytes.readings table (AnswersTableBy Counts rules) answer short_readings reads
-    (after_accepted longest_rules ReadsFile rules_too_long rules_refused rules_one bytes.rules rules (λ rules. AfterReadings rules bytes.readings (AnswersTableBy Counts rules)) answer short spells p)
 
 module _ {S K : Type 0} (left : S → Option (List ℕ)) (source_faults : S → ℕ) (held : K → Option (List ℕ)) (sink_faults : K → ℕ) where
   -- what was answered is an answer to the bytes that the sources told
   counted_told : (Counts : Problem → Found → Type 0) (ins now : Inputs S) (bytes : Inputs (List ℕ)) (answer : Answer)
       → AreTold left (roles_of (Some Global)) ins bytes → IsAnswered left source_faults (AnswersGlobalBy Counts) ins now answer → AnswersGlobalBy Counts bytes answer
   counted_told Counts ins now bytes answer told answered =
-      let any = any_answer Counts (Some Global) answered.0 answer answered.1 in
+      let any = global_any Counts answered.0 answer answered.1 in
       global_rests Counts answered.0 bytes answer (
         front left source_faults (roles_of (Some Global)).rules answer.read.rules ins.rules now.rules answered.0.rules bytes.rules (rules_unread (Some Global) answered.0 answer any) told.rules answered.2.0,
         front left source_faults (roles_of (Some Global)).readings answer.read.readings ins.readings now.readings answered.0.readings bytes.readings (readings_unread (Some Global) answered.0 answer any) told.readings answered.2.1,
@@ -227,9 +231,9 @@ module _ {S K : Type 0} (left : S → Option (List ℕ)) (source_faults : S → 
       let Any : Problem → Found → Type 0 = λ problem outcome_found. Unit {0} in
       let Counts : Problem → Found → Type 0 = λ problem. CountsChanges problem most last in
       let own : (answer : Answer) → IsAnswered left source_faults AnswersGlobal ins now answer → AnswersBoundsBy Any rules table answer =
-      λ answer q. bounds_answer Any rules table answer few (table_answer Any rules_one readings_one bytes rules table answer short spells_rules short_readings reads (counted_told Any ins now bytes answer told q)) in
+      λ answer q. bounds_answer Any rules table answer few (both_accepted (λ rules table cert. AnswersTableBy Any rules table) rules_one readings_one bytes rules table answer short spells_rules short_readings reads (counted_told Any ins now bytes answer told q)) in
       let own_counted : (answer : Answer) → IsAnswered left source_faults (AnswersGlobalBy Counts) ins now answer → AnswersBoundsBy Counts rules table answer =
-      λ answer q. bounds_answer Counts rules table answer few (table_answer Counts rules_one readings_one bytes rules table answer short spells_rules short_readings reads (counted_told Counts ins now bytes answer told q)) in
+      λ answer q. bounds_answer Counts rules table answer few (both_accepted (λ rules table cert. AnswersTableBy Counts rules table) rules_one readings_one bytes rules table answer short spells_rules short_readings reads (counted_told Counts ins now bytes answer told q)) in
       record {
         some = λ some. apart ins now outs outs_now status.Done how p faults (λ answer q. let f = own answer q in due_some rules table answer f.0 f.3 f.1 some);
         none = λ none. apart ins now outs outs_now status.NoSeries how p faults (λ answer q. let f = own answer q in due_none rules table answer f.0 f.3 f.1 none);

@@ -2,7 +2,7 @@
 use Rattle.std.proofs.Common.{◌≡◌, ◌≢◌, inl, inr, ℕ, List, Option, Some, None, refl, sym, ap, subst, ◌∙◌}
 use Rattle.screen_io.proofs.WholeReads.{taken_front, taken_whole}
 use Rattle.screen_tool.specs.declared.command.Command.{Command}
-use Rattle.screen_tool.specs.declared.command.Command.TheVariants.{Global}
+use Rattle.screen_tool.specs.declared.command.Command.TheVariants.{Check, Global}
 use Rattle.screen_tool.specs.declared.ends.EndUse.{EndUse}
 use Rattle.screen_tool.specs.declared.ends.EndUse.TheVariants.{Word, Input, Output, Nothing}
 use Rattle.screen_tool.specs.declared.ends.Inputs.{Inputs}
@@ -13,8 +13,9 @@ use Rattle.screen_tool.specs.Answer.{Extent, Whole, Begun, Unread, Answer, AreFr
 use Rattle.screen_tool.specs.Answers.{Answers, OneOutcome, RestsOnRead}
 use Rattle.screen_tool.specs.Command.{roles_of}
 use Rattle.screen_tool.specs.Ending.{outcome_status, status_of}
-use Rattle.screen_tool.specs.Performance.{IsRead, IsAnswered, Performs, AreTold, IsDue}
-use Rattle.screen_tool.proofs.AnswerLaws.{found_reads, global_has}
+use Rattle.screen_tool.specs.Check.{check_text}
+use Rattle.screen_tool.specs.Performance.{IsRead, IsAnswered, IsCut, IsWritten, LeavesUnused, Performs, AreTold, IsDue}
+use Rattle.screen_tool.proofs.AnswerLaws.{checked_has, found_reads, global_has}
 
 -- ---- what came of a source is the front of what it told
 
@@ -36,17 +37,79 @@ module _ {S : Type 0} (left : S → Option (List ℕ)) (source_faults : S → �
 
 pub rules_unread : (command : Option Command) (bytes : Inputs (List ℕ)) (answer : Answer) → Answers command bytes answer → (roles_of command).rules ≡ Nothing → answer.read.rules ≡ Unread
 rules_unread (Some Global) bytes answer p none = cc
+rules_unread (Some Check) bytes answer p none = cc
 rules_unread None bytes answer p none = ap (λ (a : Answer). a.read.rules) p
 
 pub readings_unread : (command : Option Command) (bytes : Inputs (List ℕ)) (answer : Answer) → Answers command bytes answer → (roles_of command).readings ≡ Nothing → answer.read.readings ≡ Unread
 readings_unread (Some Global) bytes answer p none = cc
+readings_unread (Some Check) bytes answer p none = cc
 readings_unread None bytes answer p none = ap (λ (a : Answer). a.read.readings) p
 
 pub cert_unread : (command : Option Command) (bytes : Inputs (List ℕ)) (answer : Answer) → Answers command bytes answer → (roles_of command).cert_read ≡ Nothing → answer.read.cert ≡ Unread
 cert_unread (Some Global) bytes answer p none =
     global_has (λ problem outcome. Unit {0}) (λ a. a.read.cert ≡ Unread) bytes answer refl (λ fault. refl) refl (λ fault. refl) refl
     (λ rules table outcome. ap (λ (read : Inputs Extent). read.cert) (found_reads rules table outcome)) p
+cert_unread (Some Check) bytes answer p none = cc
 cert_unread None bytes answer p none = ap (λ (a : Answer). a.read.cert) p
+
+-- ---- nor does it write a certificate to a sink that it has no use for
+
+cert_unwritten : (command : Option Command) (bytes : Inputs (List ℕ)) (answer : Answer) → Answers command bytes answer → (roles_of command).cert_written ≡ Nothing → answer.cert ≡ None
+cert_unwritten (Some Global) bytes answer p none = cc
+cert_unwritten (Some Check) bytes answer p none =
+    checked_has (λ rules table accepted. Unit {0}) (λ rules table. check_text) (λ a. a.cert ≡ None) bytes answer refl (λ fault. refl) refl (λ fault. refl) refl refl (λ fault. refl) (λ written. refl) p
+cert_unwritten None bytes answer p none = ap (λ (a : Answer). a.cert) p
+
+none_written : {K : Type 0} (held : K → Option (List ℕ)) (sink_faults : K → ℕ) (text : Option (List ℕ)) (sink now : K) → text ≡ None → IsWritten held sink_faults text sink now → now ≡ sink
+none_written held sink_faults text sink now p written = subst (λ (t : Option (List ℕ)). IsWritten held sink_faults t sink now) p written
+
+none_cut : {K : Type 0} (held : K → Option (List ℕ)) (sink_faults : K → ℕ) (text : Option (List ℕ)) (sink now : K) → text ≡ None → IsCut held sink_faults text sink now → ⊥
+none_cut held sink_faults text sink now p cut = subst (λ (t : Option (List ℕ)). IsCut held sink_faults t sink now) p cut
+
+out_unwritten : (command : Option Command) (bytes : Inputs (List ℕ)) (answer : Answer) → Answers command bytes answer → (roles_of command).out ≡ Nothing → answer.out ≡ None
+out_unwritten (Some Global) bytes answer p none = cc
+out_unwritten (Some Check) bytes answer p none = cc
+out_unwritten None bytes answer p none = ap (λ (a : Answer). a.out) p
+
+-- who has no use for readings has none for rules
+same_use : (command : Option Command) → (roles_of command).readings ≡ Nothing → (roles_of command).rules ≡ Nothing
+same_use (Some Global) none = cc
+same_use (Some Check) none = cc
+same_use None none = refl
+
+module _ {S K : Type 0} (left : S → Option (List ℕ)) (source_faults : S → ℕ) (held : K → Option (List ℕ)) (sink_faults : K → ℕ) where
+  cert_left : (command : Option Command) (ins now : Inputs S) (outs outs_now : Outputs K) (how : Ending)
+      → Performs left source_faults held sink_faults (Answers command) ins now outs outs_now how → (roles_of command).cert_written ≡ Nothing → outs_now.cert ≡ outs.cert
+  cert_left command ins now outs outs_now (ending.Ended outcome) p none =
+      none_written held sink_faults p.0.cert outs.cert outs_now.cert (cert_unwritten command p.2.0 p.0 p.2.1 none) p.3.0
+  cert_left command ins now outs outs_now ending.ReadFault p none = p.1.0
+  cert_left command ins now outs outs_now ending.Memory p none = p.1.0
+  cert_left command ins now outs outs_now ending.WriteFault (answer, answered, inl p) none =
+      absurd (none_cut held sink_faults answer.cert outs.cert outs_now.cert (cert_unwritten command answered.0 answer answered.1 none) p.0)
+  cert_left command ins now outs outs_now ending.WriteFault (answer, answered, inr p) none =
+      none_written held sink_faults answer.cert outs.cert outs_now.cert (cert_unwritten command answered.0 answer answered.1 none) p.0
+
+  out_left : (command : Option Command) (ins now : Inputs S) (outs outs_now : Outputs K) (how : Ending)
+      → Performs left source_faults held sink_faults (Answers command) ins now outs outs_now how → (roles_of command).out ≡ Nothing → outs_now.out ≡ outs.out
+  out_left command ins now outs outs_now (ending.Ended outcome) p none =
+      none_written held sink_faults p.0.out outs.out outs_now.out (out_unwritten command p.2.0 p.0 p.2.1 none) p.3.1
+  out_left command ins now outs outs_now ending.ReadFault p none = p.1.1
+  out_left command ins now outs outs_now ending.Memory p none = p.1.1
+  out_left command ins now outs outs_now ending.WriteFault (answer, answered, inl p) none = p.1
+  out_left command ins now outs outs_now ending.WriteFault (answer, answered, inr p) none =
+      absurd (none_cut held sink_faults answer.out outs.out outs_now.out (out_unwritten command answered.0 answer answered.1 none) p.1)
+
+  pub unused : (command : Option Command) (ins now : Inputs S) (outs outs_now : Outputs K) (how : Ending)
+      → Performs left source_faults held sink_faults (Answers command) ins now outs outs_now how
+      → ((roles_of command).rules ≡ Nothing → now ≡ ins) → ((roles_of command).cert_read ≡ Nothing → now.cert ≡ ins.cert)
+      → LeavesUnused (roles_of command) ins now outs outs_now
+  unused command ins now outs outs_now how p idle unread = record {
+    rules = λ none. ap (λ (i : Inputs S). i.rules) (idle none);
+    readings = λ none. ap (λ (i : Inputs S). i.readings) (idle (same_use command none));
+    cert_read = unread;
+    cert_written = λ none. cert_left command ins now outs outs_now how p none;
+    out = λ none. out_left command ins now outs outs_now how p none;
+  }
 
 module _ {S : Type 0} (left : S → Option (List ℕ)) (source_faults : S → ℕ) where
   -- what was answered is an answer to the bytes that the sources told

@@ -1,9 +1,13 @@
 pub mod AfterFile
 pub mod AnswerLaws
+pub mod BothFiles
+pub mod CheckSteps
 pub mod Priced
 pub mod Changed
 pub mod Written
 pub mod Steps
 pub mod Due
 pub mod Found
-mod Decided
+pub mod NoteWords
+pub mod Decided
+pub mod DecidedCheck

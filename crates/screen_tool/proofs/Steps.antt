@@ -6,6 +6,7 @@ use Rattle.least_cost.specs.declared.outcome.Outcome.{Outcome as Found}
 use Rattle.bound_maker.specs.declared.maker.TheConstants.{MOST_BOUNDS}
 use Rattle.bound_maker.specs.Bounds.{made_bounds}
 use Rattle.bound_maker.specs.Costs.{made_problem}
+use Rattle.cert_check.specs.declared.accepted.Accepted.{Accepted}
 use Rattle.rule_file.specs.File.{ReadsFile}
 use Rattle.rule_file.specs.declared.fault.RuleFault.{RuleFault}
 use Rattle.screen_io.specs.Faults.{Rose, HasCause}
@@ -29,11 +30,12 @@ use Rattle.screen_tool.specs.declared.step.StepFault.{StepFault}
 use Rattle.screen_tool.specs.declared.step.StepFault.TheVariants as fault
 use Rattle.screen_tool.specs.Answer.{Extent, Whole, Answer}
 use Rattle.screen_tool.specs.Answers.{Answers, AnswersBy, usage}
-use Rattle.screen_tool.specs.Files.{RulesAreOne, rules_too_long, rules_refused, readings_too_long, readings_refused, too_many_bounds}
+use Rattle.screen_tool.specs.Files.{AfterBoth, RulesAreOne, rules_too_long, rules_refused, readings_too_long, readings_refused, too_many_bounds}
 use Rattle.screen_tool.specs.Global.{AnswersGlobal, AnswersGlobalBy, AnswersTableBy, IsFoundFor, answer_of}
 use Rattle.screen_tool.specs.Performance.{IsAnswerTo, IsRead, AreRead, IsAnswered, Stays, Stops, LeavesSinks, IsWritten, IsNoted, Performs}
 use Rattle.screen_tool.specs.Step.{Comes, IsFound, IsReplyOf, IsStopped, IsStep, WasRead, Ends, Replies, rules_ending, readings_ending, repair_ending}
-use Rattle.screen_tool.proofs.AnswerLaws.{any_answer, needs_rules, needs_readings, reads_both}
+use Rattle.screen_tool.proofs.AnswerLaws.{any_answer, global_any, global_wholly, reads_both}
+use Rattle.screen_tool.proofs.BothFiles.{needs_readings, needs_rules}
 
 -- ---- a file that was read, and what was found in it
 
@@ -54,64 +56,66 @@ module _ {S : Type 0} (left : S → Option (List ℕ)) (source_faults : S → �
   step_unread longest Reads source now fault.Memory p = p
   step_unread longest Reads source now (fault.Refused f) p = absurd p
 
-  -- ---- how `global` ends at a fault of its steps
+  -- ---- how a command ends at a fault of its rules or its readings, where what follows comes of both
 
-  at_rules : (Happens : ℕ → ℕ → Type 0) (ins : Inputs S) (rules : S) → IsStopped left source_faults Happens ins.rules rules
-      → Stops left source_faults Happens AnswersGlobal ins (record ins { rules = rules })
-  at_rules Happens ins rules p = inl (record { came = p.0; needed = needs_rules; taken = p.1; happens = p.2; readings = refl; cert = refl })
+  module _ (Follows : Rules → TableView → List ℕ → Answer → Type 0)
+      (wholly : (rules : Rules) (table : TableView) (cert : List ℕ) (answer : Answer) → Follows rules table cert answer → (answer.read.rules ≡ Whole) × (answer.read.readings ≡ Whole)) where
+    at_rules : (Happens : ℕ → ℕ → Type 0) (ins : Inputs S) (rules : S) → IsStopped left source_faults Happens ins.rules rules
+        → Stops left source_faults Happens (AfterBoth Follows) ins (record ins { rules = rules })
+    at_rules Happens ins rules p = inl (record { came = p.0; needed = needs_rules Follows wholly; taken = p.1; happens = p.2; readings = refl; cert = refl })
 
-  pub rules_end : (ins : Inputs S) (rules : S) (given : StepFault RuleFault) → IsStep left source_faults longest_rules ReadsFile ins.rules rules (Err given)
-      → Ends left source_faults AnswersGlobal ins (record ins { rules = rules }) (rules_ending given)
-  rules_end ins rules fault.TooLong p = (
-    rules_too_long,
-    refl,
-    refl,
-    refl,
-    (record { rules = p.0; readings = []; cert = [] }, inl (p.2, refl), (p.1, refl, refl)),
-  )
-  rules_end ins rules (fault.Refused f) p = (
-    rules_refused f,
-    refl,
-    refl,
-    refl,
-    (record { rules = p.0; readings = []; cert = [] }, inr (p.2, Err f, p.3, refl), (p.1, refl, refl)),
-  )
-  rules_end ins rules fault.Failed p = at_rules Rose ins rules p
-  rules_end ins rules fault.Memory p = inr (at_rules Stays ins rules p)
+    pub rules_end : (ins : Inputs S) (rules : S) (given : StepFault RuleFault) → IsStep left source_faults longest_rules ReadsFile ins.rules rules (Err given)
+        → Ends left source_faults (AfterBoth Follows) ins (record ins { rules = rules }) (rules_ending given)
+    rules_end ins rules fault.TooLong p = (
+      rules_too_long,
+      refl,
+      refl,
+      refl,
+      (record { rules = p.0; readings = []; cert = [] }, inl (p.2, refl), (p.1, refl, refl)),
+    )
+    rules_end ins rules (fault.Refused f) p = (
+      rules_refused f,
+      refl,
+      refl,
+      refl,
+      (record { rules = p.0; readings = []; cert = [] }, inr (p.2, Err f, p.3, refl), (p.1, refl, refl)),
+    )
+    rules_end ins rules fault.Failed p = at_rules Rose ins rules p
+    rules_end ins rules fault.Memory p = inr (at_rules Stays ins rules p)
 
-  at_readings : (Happens : ℕ → ℕ → Type 0) → RulesAreOne → (ins : Inputs S) (rules readings : S) (found : Rules)
-      → IsStep left source_faults longest_rules ReadsFile ins.rules rules (Ok found) → IsStopped left source_faults Happens ins.readings readings
-      → Stops left source_faults Happens AnswersGlobal ins (record ins { rules = rules; readings = readings })
-  at_readings Happens law ins rules readings found q p =
-      inr (inl (record { rules_came = q.0; came = p.0; rules = q.1; needed = needs_readings law q.0 found q.2 q.3; taken = p.1; happens = p.2; cert = refl }))
+    pub at_readings : (Happens : ℕ → ℕ → Type 0) → RulesAreOne → (ins : Inputs S) (rules readings : S) (found : Rules)
+        → IsStep left source_faults longest_rules ReadsFile ins.rules rules (Ok found) → IsStopped left source_faults Happens ins.readings readings
+        → Stops left source_faults Happens (AfterBoth Follows) ins (record ins { rules = rules; readings = readings })
+    at_readings Happens law ins rules readings found q p =
+        inr (inl (record { rules_came = q.0; came = p.0; rules = q.1; needed = needs_readings Follows wholly law q.0 found q.2 q.3; taken = p.1; happens = p.2; cert = refl }))
 
-  pub readings_end : RulesAreOne → (ins : Inputs S) (rules readings : S) (found : Rules) (given : StepFault TableFault)
-      → IsStep left source_faults longest_rules ReadsFile ins.rules rules (Ok found)
-      → IsStep left source_faults longest_readings (ReadsTable found) ins.readings readings (Err given)
-      → Ends left source_faults AnswersGlobal ins (record ins { rules = rules; readings = readings }) (readings_ending given)
-  readings_end law ins rules readings found fault.TooLong q p = (
-    readings_too_long,
-    refl,
-    refl,
-    refl,
-    (record { rules = q.0; readings = p.0; cert = [] }, inr (q.2, Ok found, q.3, inl (p.2, refl)), (q.1, p.1, refl)),
-  )
-  readings_end law ins rules readings found (fault.Refused f) q p = (
-    readings_refused f,
-    refl,
-    refl,
-    refl,
-    (record { rules = q.0; readings = p.0; cert = [] }, inr (q.2, Ok found, q.3, inr (p.2, Err f, p.3, refl)), (q.1, p.1, refl)),
-  )
-  readings_end law ins rules readings found fault.Failed q p = at_readings Rose law ins rules readings found q p
-  readings_end law ins rules readings found fault.Memory q p = inr (at_readings Stays law ins rules readings found q p)
+    pub readings_end : RulesAreOne → (ins : Inputs S) (rules readings : S) (found : Rules) (given : StepFault TableFault)
+        → IsStep left source_faults longest_rules ReadsFile ins.rules rules (Ok found)
+        → IsStep left source_faults longest_readings (ReadsTable found) ins.readings readings (Err given)
+        → Ends left source_faults (AfterBoth Follows) ins (record ins { rules = rules; readings = readings }) (readings_ending given)
+    readings_end law ins rules readings found fault.TooLong q p = (
+      readings_too_long,
+      refl,
+      refl,
+      refl,
+      (record { rules = q.0; readings = p.0; cert = [] }, inr (q.2, Ok found, q.3, inl (p.2, refl)), (q.1, p.1, refl)),
+    )
+    readings_end law ins rules readings found (fault.Refused f) q p = (
+      readings_refused f,
+      refl,
+      refl,
+      refl,
+      (record { rules = q.0; readings = p.0; cert = [] }, inr (q.2, Ok found, q.3, inr (p.2, Err f, p.3, refl)), (q.1, p.1, refl)),
+    )
+    readings_end law ins rules readings found fault.Failed q p = at_readings Rose law ins rules readings found q p
+    readings_end law ins rules readings found fault.Memory q p = inr (at_readings Stays law ins rules readings found q p)
 
-  -- memory runs out once both files are accepted
-  pub texts_end : RulesAreOne → (ins : Inputs S) (rules readings : S) (found : Rules) (table : TableView)
-      → IsStep left source_faults longest_rules ReadsFile ins.rules rules (Ok found)
-      → IsStep left source_faults longest_readings (ReadsTable found) ins.readings readings (Ok table)
-      → Ends left source_faults AnswersGlobal ins (record ins { rules = rules; readings = readings }) ending.Memory
-  texts_end law ins rules readings found table q p = inr (at_readings Stays law ins rules readings found q (p.0, p.1.0, p.1.2))
+    -- memory runs out once both files are accepted
+    pub texts_end : RulesAreOne → (ins : Inputs S) (rules readings : S) (found : Rules) (table : TableView)
+        → IsStep left source_faults longest_rules ReadsFile ins.rules rules (Ok found)
+        → IsStep left source_faults longest_readings (ReadsTable found) ins.readings readings (Ok table)
+        → Ends left source_faults (AfterBoth Follows) ins (record ins { rules = rules; readings = readings }) ending.Memory
+    texts_end law ins rules readings found table q p = inr (at_readings Stays law ins rules readings found q (p.0, p.1.0, p.1.2))
 
   pub usage_ends : (command : Option Command) (ins : Inputs S) → command ≡ None → Ends left source_faults (Answers command) ins ins (ending.Ended Usage)
   usage_ends command ins none = (
@@ -138,7 +142,7 @@ module _ {S : Type 0} (left : S → Option (List ℕ)) (source_faults : S → �
     )
 
     any_answered : (ins now : Inputs S) (answer : Answer) → IsAnswered left source_faults (AnswersGlobalBy Counts) ins now answer → IsAnswered left source_faults AnswersGlobal ins now answer
-    any_answered ins now answer p = (p.0, any_answer Counts (Some Global) p.0 answer p.1, p.2)
+    any_answered ins now answer p = (p.0, global_any Counts p.0 answer p.1, p.2)
 
     -- what comes of accepted files is what the command replies, or how it ends
     pub table_comes : RulesAreOne → (ins : Inputs S) (rules readings : S) (found : Rules) (table : TableView) (given : Result Reply Ending)
@@ -153,11 +157,13 @@ module _ {S : Type 0} (left : S → Option (List ℕ)) (source_faults : S → �
         (c.0, c.1, c.2, c.3, any_answered ins (record ins { rules = rules; readings = readings }) c.0 (table_answered ins rules readings found table c.0 q p c.4))
     table_comes law ins rules readings found table (Err ending.ReadFault) q p c = absurd c
     table_comes law ins rules readings found table (Err ending.WriteFault) q p c = absurd c
-    table_comes law ins rules readings found table (Err ending.Memory) q p c = texts_end law ins rules readings found table q p
+    table_comes law ins rules readings found table (Err ending.Memory) q p c =
+        texts_end (λ rules table cert. AnswersTableBy (λ problem outcome. Unit {0}) rules table) (global_wholly (λ problem outcome. Unit {0})) law ins rules readings found table q p
 
     -- the reply of a command is one of its answers, whatever is counted
-    pub any_reply : (command : Option Command) (ins now : Inputs S) (reply : Reply) → Replies left source_faults (AnswersBy Counts command) ins now reply → Replies left source_faults (Answers command) ins now reply
-    any_reply command ins now reply p = (p.0, p.1, (p.2.0, any_answer Counts command p.2.0 p.0 p.2.1, p.2.2))
+    pub any_reply : (Holds : Rules → TableView → Accepted → Type 0) (command : Option Command) (ins now : Inputs S) (reply : Reply)
+        → Replies left source_faults (AnswersBy Counts Holds command) ins now reply → Replies left source_faults (Answers command) ins now reply
+    any_reply Holds command ins now reply p = (p.0, p.1, (p.2.0, any_answer Counts Holds command p.2.0 p.0 p.2.1, p.2.2))
 
   -- ---- a read that failed was counted
 

@@ -5,6 +5,7 @@ use Rattle.std.specs.Ordering.{int_eq}
 use Rattle.std.specs.List.{AllByRecursion}
 use Rattle.std.proofs.lemmas.Bool.{and_from, eq-eqb, eqb-true, lt-ltb, ltb-true, or_right}
 use Rattle.std.proofs.lemmas.Int.{ints}
+use Rattle.std.proofs.lemmas.List.{length-map}
 use Rattle.std.proofs.lemmas.List.Sums.{sum_by-cons}
 use Rattle.words.specs.Lists.{IsPart, none, kept, left_out}
 use Rattle.words.proofs.Lists.{all_at, all_weaker}
@@ -13,11 +14,14 @@ use Rattle.bound_maker.specs.Bounds.{all_bounds, made_bounds, price_of_number, p
 use Rattle.bound_maker.specs.Costs.{made_problem, weights, whole_problem}
 use Rattle.bound_maker.specs.Sound.{IsSound}
 use Rattle.bound_maker.specs.Written.{CanBeWritten, IsWritableName, IsWritablePlace}
+use Rattle.cert_check.specs.Laws.{HasFewItems, IsCertOf, IsShown, ShownIsShort, TruthIsAccepted}
+use Rattle.cert_check.specs.declared.accepted.Accepted.TheVariants as accepted
 use Rattle.cert_format.specs.declared.cert.Cert.TheVariants as cert
 use Rattle.cert_format.specs.declared.cert.SetLine.{SetLine}
 use Rattle.cert_format.specs.Cert.{AreLists, HasText}
 use Rattle.cert_format.specs.Line.{IsItem, IsName, IsSet, IsTotal}
 use Rattle.cert_format.specs.Order.{set_key}
+use Rattle.cert_format.specs.Sets.{sets_of}
 use Rattle.least_cost.specs.Answer.{Answers, IsRepaired}
 use Rattle.least_cost.specs.declared.outcome.Outcome.{Outcome}
 use Rattle.least_cost.specs.declared.outcome.Outcome.TheVariants as found
@@ -34,7 +38,7 @@ use Rattle.screen_model.specs.Obeys.{Priced}
 use Rattle.screen_model.specs.Order.{Rises, is_before, name_key, place_key}
 use Rattle.series_csv.specs.File.{TableView}
 use Rattle.series_csv.specs.Readings.{AreInOrder, IsBefore, places, values}
-use Rattle.screen_tool.specs.Certificates.{cert_of, has_price, sets_of}
+use Rattle.screen_tool.specs.Certificates.{cert_of, claim_of, has_price}
 use Rattle.screen_tool.specs.Global.{IsFoundFor}
 
 -- ---- lists that rise
@@ -243,8 +247,50 @@ written rules table (found.Repaired series flow total broken changes) can sound 
 written rules table (found.NoSeries cycle) can sound order few_readings few_bounds whole made =
     (cycle_some rules table cycle whole.blocked, named_writable rules table cycle can whole.blocked.named)
 
+-- ---- and it is accepted
+
+part_short : {A : Type 0} {part whole : List A} → IsPart part whole → length part ≤ length whole
+part_short none = omega arith
+part_short (kept p) = let q = part_short p in omega (arith, q)
+part_short (left_out p) = let q = part_short p in omega (arith, q)
+
+priced_length : (rules : Rules) (bounds : List Bound) → length (priced rules bounds) ≡ length bounds
+priced_length rules [] = refl
+priced_length rules (bound ∷ bounds) = ap suc (priced_length rules bounds)
+
+few_items : (rules : Rules) (table : TableView) (outcome : Outcome) → length (made_bounds rules table) ≤ MOST_BOUNDS → Answers (made_problem rules table) outcome → HasFewItems (claim_of outcome)
+few_items rules table (found.Repaired series flow total broken changes) few made =
+    let names = part_short made.in_order in
+    let named : length (map (λ (item : FlowItem). item.name) flow) ≡ length flow = length-map flow (λ (item : FlowItem). item.name) in
+    let bounds : length (names_of (made_problem rules table).bounds) ≡ length (made_problem rules table).bounds = length-map (made_problem rules table).bounds (λ (p : Priced). p.bound.name) in
+    let own : length (made_problem rules table).bounds ≡ length (made_bounds rules table) = priced_length rules (made_bounds rules table) in
+    omega (arith, names, named, bounds, own, few)
+few_items rules table (found.NoSeries cycle) few made = tt
+
+shown : (rules : Rules) (table : TableView) (outcome : Outcome) → Answers (whole_problem rules table) outcome → IsShown rules table (claim_of outcome)
+shown rules table (found.Repaired series flow total broken changes) whole = (whole.best, whole.total, whole.paid)
+shown rules table (found.NoSeries cycle) whole = whole.blocked
+
+one_form : (b : Bool) (table : TableView) (series : List ℤ) (flow : List FlowItem) (total broken : ℤ)
+    → IsCertOf table (accepted.Repair series flow total broken) (if b then cert.Priced total broken (sets_of (places table) (values table) series) flow else cert.Repair total (sets_of (places table) (values table) series) flow)
+one_form true table series flow total broken = inr refl
+one_form false table series flow total broken = inl refl
+
+cert_of_claim : (rules : Rules) (table : TableView) (outcome : Outcome) → IsCertOf table (claim_of outcome) (cert_of rules table outcome)
+cert_of_claim rules table (found.Repaired series flow total broken changes) = one_form (has_price rules) table series flow total broken
+cert_of_claim rules table (found.NoSeries cycle) = refl
+
 pub found_for : (rules : Rules) (table : TableView) (outcome : Outcome)
-    → CanBeWritten rules table → IsSound rules table → AreInOrder (places table) → length (places table) ≤ MOST_READINGS → length (made_bounds rules table) ≤ MOST_BOUNDS
+    → CanBeWritten rules table → IsSound rules table → TruthIsAccepted rules table → ShownIsShort rules table
+    → AreInOrder (places table) → length (places table) ≤ MOST_READINGS → length (made_bounds rules table) ≤ MOST_BOUNDS
     → Answers (whole_problem rules table) outcome → Answers (made_problem rules table) outcome → IsFoundFor rules table outcome
-found_for rules table outcome can sound order few_readings few_bounds whole made =
-    record { whole = whole; made = made; text = written rules table outcome can sound order few_readings few_bounds whole made }
+found_for rules table outcome can sound truth short order few_readings few_bounds whole made =
+    let text = written rules table outcome can sound order few_readings few_bounds whole made in
+    let is_shown = shown rules table outcome whole in
+    let of_claim = cert_of_claim rules table outcome in
+    record {
+      whole = whole;
+      made = made;
+      text = text;
+      accepted = truth (claim_of outcome) (cert_of rules table outcome) is_shown of_claim text (short (claim_of outcome) (cert_of rules table outcome) is_shown of_claim (few_items rules table outcome few_bounds made) text);
+    }

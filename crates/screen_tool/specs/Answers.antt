@@ -1,12 +1,16 @@
 -- To be believed: what each command answers, and the laws of it.
 use Rattle.std.specs.Prelude.{◌≡◌, ℕ, List, Option, Some, None}
+use Rattle.cert_check.specs.declared.accepted.Accepted.{Accepted}
 use Rattle.least_cost.specs.declared.outcome.Outcome.{Outcome as Found}
+use Rattle.rule_file.specs.declared.rules.Rules.{Rules}
 use Rattle.screen_model.specs.Cost.{Problem}
+use Rattle.series_csv.specs.File.{TableView}
 use Rattle.screen_tool.specs.declared.command.Command.{Command}
-use Rattle.screen_tool.specs.declared.command.Command.TheVariants.{Global}
+use Rattle.screen_tool.specs.declared.command.Command.TheVariants.{Check, Global}
 use Rattle.screen_tool.specs.declared.ends.Inputs.{Inputs}
 use Rattle.screen_tool.specs.declared.status.Outcome.TheVariants.{Usage}
 use Rattle.screen_tool.specs.Answer.{Unread, Answer, AreFronts}
+use Rattle.screen_tool.specs.Check.{AnswersCheckBy}
 use Rattle.screen_tool.specs.Files.{without_texts}
 use Rattle.screen_tool.specs.Global.{AnswersGlobalBy}
 
@@ -15,13 +19,14 @@ abbrev pub usage : Answer
 usage = without_texts Usage Unread Unread
 
 -- The command answers this to sources of these bytes. `Counts` is what is asked beside of a problem that is solved and of what
--- was found for it.
-abbrev pub AnswersBy : (Problem → Found → Type 0) → Option Command → Inputs (List ℕ) → Answer → Type 0
-AnswersBy Counts (Some Global) bytes answer = AnswersGlobalBy Counts bytes answer
-AnswersBy Counts None bytes answer = answer ≡ usage
+-- was found for it, and `Holds` of what a certificate is accepted as.
+abbrev pub AnswersBy : (Problem → Found → Type 0) → (Rules → TableView → Accepted → Type 0) → Option Command → Inputs (List ℕ) → Answer → Type 0
+AnswersBy Counts Holds (Some Global) bytes answer = AnswersGlobalBy Counts bytes answer
+AnswersBy Counts Holds (Some Check) bytes answer = AnswersCheckBy Holds bytes answer
+AnswersBy Counts Holds None bytes answer = answer ≡ usage
 
 abbrev pub Answers : Option Command → Inputs (List ℕ) → Answer → Type 0
-Answers = AnswersBy (λ problem found. Unit {0})
+Answers = AnswersBy (λ problem found. Unit {0}) (λ rules table accepted. Unit {0})
 
 -- A command comes to one outcome only, whatever text it may choose.
 abbrev pub OneOutcome : Type 0

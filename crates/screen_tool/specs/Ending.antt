@@ -3,7 +3,7 @@ use Rattle.std.specs.Prelude.{◌≡◌, ◌⊎◌, ℕ}
 use Rattle.screen_tool.specs.declared.status.Status.{Status}
 use Rattle.screen_tool.specs.declared.status.Status.TheVariants as status
 use Rattle.screen_tool.specs.declared.status.Outcome.{Outcome}
-use Rattle.screen_tool.specs.declared.status.Outcome.TheVariants.{Done, NoSeries, Usage, RulesRefused, ReadingsRefused, TooManyBounds}
+use Rattle.screen_tool.specs.declared.status.Outcome.TheVariants.{Done, NoSeries, Usage, RulesRefused, ReadingsRefused, TooManyBounds, CertRefused}
 use Rattle.screen_tool.specs.declared.status.Ending.{Ending}
 use Rattle.screen_tool.specs.declared.status.Ending.TheVariants.{Ended, ReadFault, WriteFault, Memory}
 
@@ -16,6 +16,7 @@ code_of status.ReadingsRefused = 4
 code_of status.ReadFault = 5
 code_of status.WriteFault = 6
 code_of status.Memory = 7
+code_of status.CertRefused = 8
 
 abbrev pub outcome_status : Outcome → Status
 outcome_status Done = status.Done
@@ -24,6 +25,7 @@ outcome_status Usage = status.Usage
 outcome_status (RulesRefused fault) = status.RulesRefused
 outcome_status (ReadingsRefused fault) = status.ReadingsRefused
 outcome_status TooManyBounds = status.ReadingsRefused
+outcome_status (CertRefused fault) = status.CertRefused
 
 abbrev pub status_of : Ending → Status
 status_of (Ended outcome) = outcome_status outcome
@@ -35,3 +37,8 @@ status_of Memory = status.Memory
 abbrev pub IsStatusFor : Outcome → Status → Type 0
 IsStatusFor outcome given =
     (given ≡ outcome_status outcome) ⊎ ((given ≡ status.ReadFault) ⊎ ((given ≡ status.WriteFault) ⊎ (given ≡ status.Memory)))
+
+-- The status is the one that is due, unless there was such a read fault or such a write fault, or memory ran out.
+abbrev pub IsUnless : Type 0 → Type 0 → Status → Status → Type 0
+IsUnless ReadFaulted WriteFaulted due given =
+    (given ≡ due) ⊎ (((given ≡ status.ReadFault) × ReadFaulted) ⊎ (((given ≡ status.WriteFault) × WriteFaulted) ⊎ (given ≡ status.Memory)))

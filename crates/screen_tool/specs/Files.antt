@@ -13,6 +13,7 @@ use Rattle.series_csv.specs.declared.table.TheConstants.{LONGEST as longest_read
 use Rattle.series_rows.specs.Faults.{of_the_file as of_the_readings}
 use Rattle.series_rows.specs.declared.fault.TableFault.{TableFault}
 use Rattle.series_rows.specs.declared.fault.TableCause.TheVariants as readings
+use Rattle.screen_tool.specs.declared.ends.Inputs.{Inputs}
 use Rattle.screen_tool.specs.declared.status.Outcome.{Outcome}
 use Rattle.screen_tool.specs.declared.status.Outcome.TheVariants.{RulesRefused, ReadingsRefused, TooManyBounds}
 use Rattle.screen_tool.specs.Answer.{Extent, Whole, Begun, Unread, Answer, AfterFile, AreOne}
@@ -48,6 +49,10 @@ AfterRules = AfterFile longest_rules ReadsFile rules_too_long rules_refused
 -- The readings are read by accepted rules.
 abbrev pub AfterReadings : Rules → List ℕ → (TableView → Answer → Type 0) → Answer → Type 0
 AfterReadings rules = AfterFile longest_readings (ReadsTable rules) readings_too_long readings_refused
+
+-- What follows once both files are accepted, by the bytes of the certificate that is read after them, if one is.
+abbrev pub AfterBoth : (Rules → TableView → List ℕ → Answer → Type 0) → Inputs (List ℕ) → Answer → Type 0
+AfterBoth Follows bytes = AfterRules bytes.rules (λ rules. AfterReadings rules bytes.readings (λ table. Follows rules table bytes.cert))
 
 -- the bounds that are made of the table are no more than there may be
 abbrev pub HasFewBounds : Rules → TableView → Type 0

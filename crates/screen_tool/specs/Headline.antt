@@ -1,9 +1,12 @@
 -- To be believed: what the program is for, in one piece.
-use Rattle.std.specs.Prelude.{◌≡◌, ◌≢◌, ◌⊎◌, ℕ, ◌≤◌, pos, ℤ, List, length, Option, Some, IfSome}
+use Rattle.std.specs.Prelude.{◌≡◌, ◌≢◌, ◌⊎◌, ℕ, ◌≤◌, pos, ℤ, List, length, Option, Some, IfSome, Ok}
 use Rattle.bound_maker.specs.Costs.{made_problem, whole_problem}
+use Rattle.cert_check.specs.Judges.{Judges}
+use Rattle.cert_check.specs.declared.accepted.Accepted.TheVariants as accepted
 use Rattle.cert_format.specs.declared.cert.Cert.TheVariants as cert
 use Rattle.cert_format.specs.declared.cert.SetLine.{SetLine}
 use Rattle.cert_format.specs.Reads.{Spells as SpellsCert}
+use Rattle.cert_format.specs.Sets.{series_set}
 use Rattle.flow_core.specs.Layout.{network_of}
 use Rattle.flow_core.specs.Solving.{by_size}
 use Rattle.least_cost.specs.Repair.{IsObeying, IsRepair}
@@ -21,8 +24,9 @@ use Rattle.screen_io.specs.Sink.{Gains}
 use Rattle.screen_tool.specs.declared.ends.Inputs.{Inputs}
 use Rattle.screen_tool.specs.declared.ends.Outputs.{Outputs}
 use Rattle.screen_tool.specs.declared.status.Status.{Status}
-use Rattle.screen_tool.specs.declared.status.Status.TheVariants.{Done, NoSeries, ReadFault, WriteFault, Memory}
-use Rattle.screen_tool.specs.Certificates.{repair_cert, series_by}
+use Rattle.screen_tool.specs.declared.status.Status.TheVariants.{Done, NoSeries, WriteFault}
+use Rattle.screen_tool.specs.Certificates.{repair_cert}
+use Rattle.screen_tool.specs.Ending.{IsUnless}
 use Rattle.screen_tool.specs.Files.{HasFewBounds}
 
 -- some series obeys every bound of the rules that has no price; or none does
@@ -31,22 +35,25 @@ SomeObeys rules table = (series : List ℤ) × IsObeying (whole_problem rules ta
 
 -- The certificate claims a repair and shows it: its series, which are the values that were read but for those of its set
 -- lines, and its flow. No series that obeys costs less, and the total is what it costs. The text is the table with this
--- series, which of all that cost as little is the greatest. So the text is one only.
+-- series, which of all that cost as little is the greatest. So the text is one only. The certificate is accepted by whoever
+-- checks it, as what it claims.
 pub record ShowsRepair (rules : Rules) (table : TableView) (certificate text : List ℕ) : Type 0 where
   pub series : List ℤ
   pub sets : List SetLine
   pub flow : List FlowItem
   pub spells : SpellsCert certificate (repair_cert rules (pos (cost (whole_problem rules table) series)) (pos (paid (whole_problem rules table) series)) sets flow)
-  pub tells : series_by sets (places table) (values table) ≡ series
+  pub tells : series_set (places table) (values table) sets ≡ series
   pub best : IsBestByItems (whole_problem rules table) series flow
   pub repair : IsRepair (whole_problem rules table) series
+  pub accepted : Judges rules table certificate (Ok (accepted.Repair series flow (pos (cost (whole_problem rules table) series)) (pos (paid (whole_problem rules table) series))))
   pub written : text ≡ table_text rules table series
 
--- The certificate claims a cycle of bounds with a negative sum, and shows it.
+-- The certificate claims a cycle of bounds with a negative sum, and shows it; and it is accepted.
 pub record ShowsCycle (rules : Rules) (table : TableView) (certificate : List ℕ) : Type 0 where
   pub steps : List BoundName
   pub spells : SpellsCert certificate (cert.NoSeries steps)
   pub blocked : IsBlockedByNames (whole_problem rules table).bounds steps
+  pub accepted : Judges rules table certificate (Ok (accepted.NoSeries steps))
 
 -- The solver that was lent has counted at least as many changes as the certificate has flow lines, and no more than it may
 -- need for the readings, the weights and the prices of the bounds that are made.
@@ -82,9 +89,7 @@ module _ {K : Type 0} (held : K → Option (List ℕ)) where
 module _ {S K : Type 0} (left : S → Option (List ℕ)) (source_faults : S → ℕ) (held : K → Option (List ℕ)) (sink_faults : K → ℕ) where
   -- The status is this one, apart from a counted read or write fault and want of memory.
   abbrev pub IsApartFromFaults : Inputs S → Inputs S → Outputs K → Outputs K → Status → Status → Type 0
-  IsApartFromFaults ins ins_now outs outs_now due given =
-      (given ≡ due)
-      ⊎ (((given ≡ ReadFault) × CountsReadFault source_faults ins ins_now) ⊎ (((given ≡ WriteFault) × CountsWriteFault sink_faults outs outs_now) ⊎ (given ≡ Memory)))
+  IsApartFromFaults ins ins_now outs outs_now = IsUnless (CountsReadFault source_faults ins ins_now) (CountsWriteFault sink_faults outs outs_now)
 
   -- Apart from these, 0 is answered exactly where some series obeys, and then a repair is written; 1 exactly where none does,
   -- and then a cycle is; and with every status but 0, 1 and 6 both sinks are the same as before.

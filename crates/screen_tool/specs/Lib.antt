@@ -1,11 +1,14 @@
 pub mod Answer
 pub mod Answers
 pub mod Certificates
+pub mod Check
+pub mod Checked
 pub mod Command
 pub mod Ending
 pub mod Files
 pub mod Global
 pub mod Headline
+pub mod HeadlineCheck
 pub mod Note
 pub mod Performance
 pub mod RealEnds

@@ -1,5 +1,6 @@
 -- To be believed: what the program says of each ending.
-use Rattle.std.specs.Prelude.{ℕ, List, [], ◌++◌, codes, decimal}
+use Rattle.std.specs.Prelude.{ℕ, List, [], ◌∷◌, ◌++◌, codes, decimal}
+use Rattle.std.specs.Fmt.{signed_decimal}
 use Rattle.rule_file.specs.declared.fault.RuleCause.{RuleCause}
 use Rattle.rule_file.specs.declared.fault.RuleCause.TheVariants as rules
 use Rattle.fix_point.specs.declared.scale.NumFault.{NumFault}
@@ -10,10 +11,14 @@ use Rattle.record_cut.specs.declared.fault.CutFault.{CutFault}
 use Rattle.record_cut.specs.declared.fault.CutFault.TheVariants as cut
 use Rattle.series_rows.specs.declared.fault.TableCause.{TableCause}
 use Rattle.series_rows.specs.declared.fault.TableCause.TheVariants as readings
+use Rattle.cert_format.specs.Line.{name_words}
+use Rattle.cert_format.specs.Words.{line_of_words}
+use Rattle.cert_check.specs.declared.fault.CertFault.{CertFault}
+use Rattle.cert_check.specs.declared.fault.CertFault.TheVariants as cert
 use Rattle.screen_tool.specs.declared.status.Ending.{Ending}
 use Rattle.screen_tool.specs.declared.status.Ending.TheVariants.{Ended, ReadFault, WriteFault, Memory}
 use Rattle.screen_tool.specs.declared.status.Outcome.{Outcome}
-use Rattle.screen_tool.specs.declared.status.Outcome.TheVariants.{Done, NoSeries, Usage, RulesRefused, ReadingsRefused, TooManyBounds}
+use Rattle.screen_tool.specs.declared.status.Outcome.TheVariants.{Done, NoSeries, Usage, RulesRefused, ReadingsRefused, TooManyBounds, CertRefused}
 
 abbrev pub rule_cause_name : RuleCause → List ℕ
 rule_cause_name rules.Syntax = codes "Syntax"
@@ -63,11 +68,30 @@ table_cause_name readings.FileTooLong = codes "FileTooLong"
 table_cause_name readings.Memory = codes "Memory"
 
 abbrev pub usage_text : List ℕ
-usage_text = codes "usage: screen global RULES READINGS CERT\n"
+usage_text =
+    codes "usage: screen global RULES READINGS CERT\n"
+    ++ codes "       screen check RULES READINGS CERT\n"
 
 -- why the readings are refused, with the row and the column
 abbrev pub readings_text : List ℕ → ℕ → ℕ → List ℕ
 readings_text name row col = codes "screen: readings refused: " ++ name ++ codes ", row " ++ decimal row ++ codes ", column " ++ decimal col ++ codes "\n"
+
+-- The name of the cause, and then what it is about: a line, or the name of a bound, a place or sums in units.
+abbrev pub cert_fault_words : CertFault → List (List ℕ)
+cert_fault_words (cert.Syntax line) = codes "Syntax" ∷ decimal line ∷ []
+cert_fault_words (cert.SetOutside line) = codes "SetOutside" ∷ decimal line ∷ []
+cert_fault_words (cert.UnknownBound line) = codes "UnknownBound" ∷ decimal line ∷ []
+cert_fault_words (cert.Broken name) = codes "Broken" ∷ name_words name
+cert_fault_words (cert.TotalWrong given truth) = codes "TotalWrong" ∷ signed_decimal given ∷ signed_decimal truth ∷ []
+cert_fault_words (cert.PullTooGreat place) = codes "PullTooGreat" ∷ decimal place.row ∷ decimal place.col ∷ []
+cert_fault_words (cert.ValueDiffers value total) = codes "ValueDiffers" ∷ signed_decimal value ∷ signed_decimal total ∷ []
+cert_fault_words (cert.CycleOpen line) = codes "CycleOpen" ∷ decimal line ∷ []
+cert_fault_words (cert.CycleSum sum) = codes "CycleSum" ∷ signed_decimal sum ∷ []
+cert_fault_words cert.FileTooLong = codes "FileTooLong" ∷ []
+cert_fault_words (cert.OverPrice line) = codes "OverPrice" ∷ decimal line ∷ []
+cert_fault_words (cert.PricedStep line) = codes "PricedStep" ∷ decimal line ∷ []
+cert_fault_words (cert.PaidWrong given truth) = codes "PaidWrong" ∷ signed_decimal given ∷ signed_decimal truth ∷ []
+cert_fault_words cert.Memory = codes "Memory" ∷ []
 
 -- one line, and none where all is well
 abbrev pub outcome_text : Outcome → List ℕ
@@ -77,6 +101,7 @@ outcome_text Usage = usage_text
 outcome_text (RulesRefused fault) = codes "screen: rules refused: " ++ rule_cause_name fault.cause ++ codes ", rule " ++ decimal fault.rule ++ codes "\n"
 outcome_text (ReadingsRefused fault) = readings_text (table_cause_name fault.cause) fault.row fault.col
 outcome_text TooManyBounds = readings_text (codes "TooManyBounds") 0 0
+outcome_text (CertRefused fault) = codes "screen: certificate refused: " ++ line_of_words (cert_fault_words fault) ++ codes "\n"
 
 abbrev pub note_text : Ending → List ℕ
 note_text (Ended outcome) = outcome_text outcome

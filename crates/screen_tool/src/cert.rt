@@ -1,8 +1,9 @@
 //! The certificates that commands write.
 ghost use Rattle.std.specs.Prelude.{◌≡◌, [], ◌++◌, length, IfOk, OnOk};
 ghost use Rattle.cert_format.specs.declared.cert.SetLine.{SetLine};
+ghost use Rattle.cert_format.specs.Sets.{sets_of, with_set};
 ghost use Rattle.series_csv.specs.Readings.{places, values};
-ghost use Rattle.screen_tool.specs.Certificates.{cert_of, repair_cert, sets_of, with_set};
+ghost use Rattle.screen_tool.specs.Certificates.{cert_of, repair_cert};
 ghost use Rattle.screen_tool.specs.Global.{IsFoundFor};
 
 use crate::prices::has_price;

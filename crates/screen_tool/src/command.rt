@@ -9,6 +9,8 @@ use crate::ends::{EndUse, Roles};
 pub enum Command {
     /// `global RULES READINGS CERT`: write the repaired readings, with a certificate.
     Global,
+    /// `check RULES READINGS CERT`: tell whether the certificate is accepted.
+    Check,
 }
 
 /// The command that the words ask for, and `None` where they ask for none. The words do
@@ -18,6 +20,7 @@ pub(crate) fn command_from(words: &[String]) -> Option<Command>
 {
     match words {
         [command, _, _, _] if command.as_str() == "global" => Some(Command::Global),
+        [command, _, _, _] if command.as_str() == "check" => Some(Command::Check),
         _ => None,
     }
 }
@@ -33,6 +36,13 @@ pub fn roles(words: &[String]) -> Roles
             readings: EndUse::Word(2),
             cert_read: EndUse::Nothing,
             cert_written: EndUse::Word(3),
+            out: EndUse::Output,
+        },
+        Some(Command::Check) => Roles {
+            rules: EndUse::Word(1),
+            readings: EndUse::Word(2),
+            cert_read: EndUse::Word(3),
+            cert_written: EndUse::Nothing,
             out: EndUse::Output,
         },
         None => Roles {

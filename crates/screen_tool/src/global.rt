@@ -14,6 +14,7 @@ use crate::laws::files_are_one;
 use crate::reply::Reply;
 use crate::status::{Ending, Outcome};
 use bound_maker::{names_can_be_written, problem_is_sound};
+use cert_check::{shown_is_short, truth_is_accepted};
 use cert_format::write_cert;
 use flow_core::Solver;
 use global_repair::{Outcome as Found, repair};
@@ -58,9 +59,11 @@ fn reply_over<V: Solver>(
     ensures no_done { result ≢ Err (Ending.Ended Outcome.Done) }
     ensures most_stays { V.most solver.new ≡ V.most solver.old }
 {
-    // What shows that the certificate has a text; it does nothing.
+    // The laws that show that the certificate has a text, and that it is accepted; they do nothing.
     problem_is_sound(table, rules);
     names_can_be_written(table, rules);
+    truth_is_accepted(table, rules);
+    shown_is_short(table, rules);
     let _places = table.places();
     let _len = table.len();
     let found = repair(alloc, table, rules, solver)?;

@@ -5,6 +5,11 @@
 #![tactic(auto)]
 
 mod cert;
+mod cert_note;
+mod check;
+#[cfg(test)]
+mod check_tests;
+mod checked;
 mod command;
 mod ends;
 mod files;

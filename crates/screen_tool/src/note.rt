@@ -3,6 +3,7 @@ ghost use Rattle.std.specs.Prelude.{◌≡◌, ◌+◌, ◌++◌, ◌≤◌, len
 ghost use Rattle.arrayvec.specs.ArrayString.{array_string_len};
 ghost use Rattle.screen_tool.specs.Note.{note_text, outcome_text, readings_text, rule_cause_name, table_cause_name, time_fault_name, number_fault_name, cut_fault_name};
 
+use crate::cert_note::cert_note;
 use crate::status::{Ending, Outcome};
 use arrayvec::ArrayString;
 use fix_point::NumFault;
@@ -13,12 +14,13 @@ use series_csv::{TableCause, TableFault};
 use time_text::TimeFault;
 
 /// The room for a note, in bytes.
-const ROOM: usize = 128;
+pub(crate) const ROOM: usize = 192;
 
 /// A note of one line, in place: it takes no memory.
 pub(crate) type Note = ArrayString<ROOM>;
 
-const USAGE: &str = "usage: screen global RULES READINGS CERT\n";
+const USAGE: &str =
+    "usage: screen global RULES READINGS CERT\n       screen check RULES READINGS CERT\n";
 
 /// What the program says of an ending.
 pub(crate) fn note_of(ending: &Ending) -> Note
@@ -46,6 +48,7 @@ fn outcome_note(outcome: &Outcome) -> Note
         Outcome::RulesRefused(fault) => return rules_note(fault),
         Outcome::ReadingsRefused(fault) => return table_note(fault),
         Outcome::TooManyBounds => return readings_note("TooManyBounds", 0, 0),
+        Outcome::CertRefused(fault) => return cert_note(fault),
     }
     note
 }
@@ -85,7 +88,7 @@ fn readings_note(name: &str, row: u32, col: u32) -> Note
 }
 
 /// Adds a number of at most ten digits.
-fn push_number(note: &mut Note, number: u32)
+pub(crate) fn push_number(note: &mut Note, number: u32)
     requires { array_string_len note.old + 10 ≤ ROOM }
     ensures bytes { note.new.bytes ≡ note.old.bytes ++ decimal number }
     ensures len { array_string_len note.new ≤ array_string_len note.old + 10 }

@@ -1,15 +1,20 @@
 //! What the program does with its words, its sources and its sinks.
 ghost use Rattle.std.specs.Prelude.{◌≡◌, ◌≢◌, ◌↔◌, Some, None, Err, IfOk, MatchResult};
+ghost use Rattle.cert_check.specs.Laws.{IsTrueClaim};
 ghost use Rattle.screen_tool.specs.Answer.{Answer};
 ghost use Rattle.least_cost.specs.Answer.{CountsChanges};
 ghost use Rattle.screen_tool.specs.Answers.{Answers, AnswersBy};
 ghost use Rattle.screen_tool.specs.Command.{command_of, roles_of, texts};
 ghost use Rattle.screen_tool.specs.Ending.{status_of};
+ghost use Rattle.screen_tool.specs.Check.{check_text};
 ghost use Rattle.screen_tool.specs.Headline.{CountsReadFault, Headline};
+ghost use Rattle.screen_tool.specs.HeadlineCheck.{HeadlineCheck};
 ghost use Rattle.screen_tool.specs.Note.{note_text};
 ghost use Rattle.screen_tool.specs.Performance.{AreCut, AreWritten, IsDue, IsNoted, LeavesUnused, Performs};
 ghost use Rattle.screen_tool.specs.Step.{Ends, IsReplyOf, Replies};
+ghost use Rattle.screen_tool.specs.declared.ends.EndUse.TheVariants.{Nothing};
 
+use crate::check::check;
 use crate::command::{Command, command_from};
 use crate::ends::{Inputs, Outputs};
 use crate::global::global;
@@ -26,6 +31,9 @@ use std::alloc::Global;
 /// `global RULES READINGS CERT` reads the rules and then the readings, and writes a certificate and the
 /// repaired readings. Where no series obeys the rules it writes the certificate alone, and answers [`Status::NoSeries`].
 /// The solver does the repair; no other command uses it.
+///
+/// `check RULES READINGS CERT` reads the rules, the readings and the certificate, and writes a line that tells which claim is
+/// accepted. Where the certificate is refused it writes nothing, and answers [`Status::CertRefused`].
 ///
 /// Every text is made before the first is written. A note that can't be written changes nothing.
 pub fn run<S: Source, K: Sink, V: Solver>(
@@ -47,15 +55,17 @@ pub fn run<S: Source, K: Sink, V: Solver>(
     // What is due is answered, apart from counted faults and want of memory.
     ensures due { IsDue S.left (roles_of (command_of (texts words.now))) (Answers (command_of (texts words.now))) ins.old result }
 
-    // The solver is left where there is no command, and what it tells of itself stays.
-    ensures solver_stays { command_of (texts words.now) ≡ None → solver.new ≡ solver.old }
+    // The solver is left where no repair is asked for, and what it tells of itself stays.
+    ensures solver_stays { command_of (texts words.now) ≢ Some Command.Global → solver.new ≡ solver.old }
     ensures most_stays { V.most solver.new ≡ V.most solver.old }
 
     // What the program is for.
     ensures headline { command_of (texts words.now) ≡ Some Command.Global →
         Headline S.left S.faults K.held K.faults ins.old ins.new outs.old outs.new (V.most solver.new) (V.last solver.new) result }
+    ensures check { command_of (texts words.now) ≡ Some Command.Check →
+        HeadlineCheck S.left S.faults K.held K.faults (λ rules table. check_text) ins.old ins.new outs.old outs.new result }
 {
-    // The laws that show `due` and `headline`; they do nothing.
+    // The laws that show `due` and the headlines; they do nothing.
     files_are_one();
     one_outcome();
     rests_on_read();
@@ -75,12 +85,12 @@ fn ending_of<S: Source, K: Sink, V: Solver>(
 ) -> Ending
     ensures performs { Performs S.left S.faults K.held K.faults (Answers command) ins.old ins.new outs.old outs.new result }
     ensures counts { result ≡ Ending.Ended Outcome.Done →
-        Performs S.left S.faults K.held K.faults (AnswersBy (λ problem. CountsChanges problem (V.most solver.new) (V.last solver.new)) command) ins.old ins.new outs.old outs.new (Ending.Ended Outcome.Done) }
+        Performs S.left S.faults K.held K.faults (AnswersBy (λ problem. CountsChanges problem (V.most solver.new) (V.last solver.new)) IsTrueClaim command) ins.old ins.new outs.old outs.new (Ending.Ended Outcome.Done) }
     ensures read_faults { command ≡ Some Command.Global → result ≡ Ending.ReadFault → CountsReadFault S.faults ins.old ins.new }
     ensures usage { (result ≡ Ending.Ended Outcome.Usage) ↔ (command ≡ None) }
     ensures unused { LeavesUnused (roles_of command) ins.old ins.new outs.old outs.new }
     ensures note { outs.new.note ≡ outs.old.note }
-    ensures solver_stays { command ≡ None → solver.new ≡ solver.old }
+    ensures solver_stays { command ≢ Some Command.Global → solver.new ≡ solver.old }
     ensures most_stays { V.most solver.new ≡ V.most solver.old }
 {
     match reply_of(alloc, command, ins, solver) {
@@ -100,19 +110,20 @@ fn reply_of<S: Source, V: Solver>(
     solver: &mut V,
 ) -> Result<Reply, Ending>
     ensures answer { MatchResult result
-        (Replies S.left S.faults (AnswersBy (λ problem. CountsChanges problem (V.most solver.new) (V.last solver.new)) command) ins.old ins.new)
+        (Replies S.left S.faults (AnswersBy (λ problem. CountsChanges problem (V.most solver.new) (V.last solver.new)) IsTrueClaim command) ins.old ins.new)
         (Ends S.left S.faults (Answers command) ins.old ins.new) }
     ensures usage { (result ≡ Err (Ending.Ended Outcome.Usage)) ↔ (command ≡ None) }
     ensures done { IfOk result (λ reply. reply.outcome ≢ Outcome.Usage) }
     ensures no_done { result ≢ Err (Ending.Ended Outcome.Done) }
     ensures read_faults { command ≡ Some Command.Global → result ≡ Err Ending.ReadFault → CountsReadFault S.faults ins.old ins.new }
-    ensures unread { ins.new.cert ≡ ins.old.cert }
-    ensures idle { command ≡ None → ins.new ≡ ins.old }
-    ensures solver_stays { command ≡ None → solver.new ≡ solver.old }
+    ensures unread { (roles_of command).cert_read ≡ Nothing → ins.new.cert ≡ ins.old.cert }
+    ensures idle { (roles_of command).rules ≡ Nothing → ins.new ≡ ins.old }
+    ensures solver_stays { command ≢ Some Command.Global → solver.new ≡ solver.old }
     ensures most_stays { V.most solver.new ≡ V.most solver.old }
 {
     match command {
         Some(Command::Global) => global(alloc, ins, solver),
+        Some(Command::Check) => check(alloc, ins),
         None => Err(Ending::Ended(Outcome::Usage)),
     }
 }

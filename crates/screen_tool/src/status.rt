@@ -3,6 +3,8 @@ ghost use Rattle.std.specs.Prelude.{◌≡◌};
 ghost use Rattle.screen_tool.specs.Ending.{code_of, status_of};
 
 use crate::step::StepFault;
+use bound_maker::MakeFault;
+use cert_check::CertFault;
 use global_repair::RepairFault;
 use rule_file::RuleFault;
 use series_csv::{TableCause, TableFault};
@@ -27,6 +29,8 @@ pub enum Status {
     WriteFault,
     /// 7: memory ran out.
     Memory,
+    /// 8: the certificate is refused.
+    CertRefused,
 }
 
 impl Status {
@@ -43,6 +47,7 @@ impl Status {
             Status::ReadFault => 5,
             Status::WriteFault => 6,
             Status::Memory => 7,
+            Status::CertRefused => 8,
         }
     }
 }
@@ -62,6 +67,8 @@ pub enum Outcome {
     ReadingsRefused(TableFault),
     /// The rules make more than 4,000,000 bounds of the readings.
     TooManyBounds,
+    /// The certificate is refused.
+    CertRefused(CertFault),
 }
 
 /// How a run ended.
@@ -90,6 +97,7 @@ impl Ending {
             Ending::Ended(Outcome::ReadingsRefused(_) | Outcome::TooManyBounds) => {
                 Status::ReadingsRefused
             }
+            Ending::Ended(Outcome::CertRefused(_)) => Status::CertRefused,
             Ending::ReadFault => Status::ReadFault,
             Ending::WriteFault => Status::WriteFault,
             Ending::Memory => Status::Memory,
@@ -138,6 +146,36 @@ impl From<StepFault<TableFault>> for Ending {
             StepFault::Refused(fault) => Ending::Ended(Outcome::ReadingsRefused(fault)),
             StepFault::Failed => Ending::ReadFault,
             StepFault::Memory => Ending::Memory,
+        }
+    }
+}
+
+impl From<StepFault<CertFault>> for Ending {
+    ghost use Rattle.std.specs.Prelude.{◌≡◌};
+    ghost use Rattle.screen_tool.specs.Step.{cert_ending};
+
+    ghost from_gives = { λ fault ending. ending ≡ cert_ending fault };
+
+    fn from(fault: StepFault<CertFault>) -> Ending {
+        match fault {
+            StepFault::TooLong => Ending::Ended(Outcome::CertRefused(CertFault::FileTooLong)),
+            StepFault::Refused(fault) => Ending::Ended(Outcome::CertRefused(fault)),
+            StepFault::Failed => Ending::ReadFault,
+            StepFault::Memory => Ending::Memory,
+        }
+    }
+}
+
+impl From<MakeFault> for Ending {
+    ghost use Rattle.std.specs.Prelude.{◌≡◌};
+    ghost use Rattle.screen_tool.specs.Step.{make_ending};
+
+    ghost from_gives = { λ fault ending. ending ≡ make_ending fault };
+
+    fn from(fault: MakeFault) -> Ending {
+        match fault {
+            MakeFault::TooManyBounds => Ending::Ended(Outcome::TooManyBounds),
+            MakeFault::Memory => Ending::Memory,
         }
     }
 }

@@ -8,7 +8,7 @@ use std::process::Abort;
 use std::test::Fail;
 
 /// The sensor x may change by 1 in a second.
-const BASE: &str =
+pub(super) const BASE: &str =
     "[format]\ndecimals = 0\n[[speed]]\nsensor = \"x\"\nmin = -1\nmax = 1\nper = 1\nwindow = 10\n";
 
 /// By 1 in three seconds: neighbours a second apart may not move.
@@ -24,7 +24,7 @@ const EXACT: &str =
     "[format]\ndecimals = 0\n[[speed]]\nsensor = \"x\"\nmin = 1\nmax = 1\nper = 3\nwindow = 10\n";
 
 /// A speed rule whose bounds may be broken for a price.
-const PRICED: &str =
+pub(super) const PRICED: &str =
     "[format]\ndecimals = 0\n[[speed]]\nsensor = \"x\"\nmin = -1\nmax = 1\nwindow = 10\nprice = 1\n[[weight]]\nsensor = \"x\"\nweight = 5\n";
 
 /// A speed rule, and readings that are right.
@@ -46,17 +46,18 @@ const DEAR_RANGE: &str =
     "[format]\ndecimals = 0\n[[range]]\nsensor = \"x\"\nmax = 50\nprice = 1\n[[trust]]\nsensor = \"x\"\n";
 
 /// A range without a price, and readings that are right.
-const RANGE_TRUST: &str =
+pub(super) const RANGE_TRUST: &str =
     "[format]\ndecimals = 0\n[[range]]\nsensor = \"x\"\nmax = 50\n[[trust]]\nsensor = \"x\"\n";
 
 const RANGE: &str = "[format]\ndecimals = 0\n[[range]]\nsensor = \"x\"\nmax = 50\n";
 
-const SWING: &str = "[format]\ndecimals = 0\n[[swing]]\nsensor = \"x\"\nmost = 5\nwindow = 10\n";
+pub(super) const SWING: &str =
+    "[format]\ndecimals = 0\n[[swing]]\nsensor = \"x\"\nmost = 5\nwindow = 10\n";
 
 const DRIFT: &str =
     "[format]\ndecimals = 0\n[[drift]]\nsensor = \"x\"\nmin = -1\nmax = 1\nper = 10\nover = 10\nwindow = 20\n";
 
-const BETWEEN: &str =
+pub(super) const BETWEEN: &str =
     "[format]\ndecimals = 0\n[[between]]\nfirst = \"in\"\nsecond = \"out\"\nmin = 0\nmax = 5\n";
 
 const READINGS: &[u8] = b"time,x\n0,10\n1,11\n2,12\n";
@@ -71,10 +72,10 @@ const GLOBAL: [&str; 4] = ["global", "r", "d", "c"];
 
 /// A run of `global`: how it ended, and what it wrote.
 #[derive(Drop)]
-struct Ran {
+pub(super) struct Ran {
     status: Status,
     out: MemSink,
-    cert: MemSink,
+    pub(super) cert: MemSink,
     note: MemSink,
     read_cert: bool,
 }
@@ -89,7 +90,7 @@ impl Ran {
     }
 }
 
-fn words(alloc: Global, texts: &[&str]) -> Result<Vec<String>, AllocError> {
+pub(super) fn words(alloc: Global, texts: &[&str]) -> Result<Vec<String>, AllocError> {
     let mut words = Vec::new(alloc);
     for text in texts {
         words.push(String::from_str(alloc, text)?)?;
@@ -97,11 +98,11 @@ fn words(alloc: Global, texts: &[&str]) -> Result<Vec<String>, AllocError> {
     Ok(words)
 }
 
-fn source(alloc: Global, bytes: &[u8], fails: &[u64]) -> Result<MemSource, AllocError> {
+pub(super) fn source(alloc: Global, bytes: &[u8], fails: &[u64]) -> Result<MemSource, AllocError> {
     Ok(MemSource::new(bytes.to_vec(alloc)?, fails.to_vec(alloc)?, 16))
 }
 
-fn sink(alloc: Global, fails: &[u64]) -> Result<MemSink, AllocError> {
+pub(super) fn sink(alloc: Global, fails: &[u64]) -> Result<MemSink, AllocError> {
     MemSink::new(alloc, 40_000, fails.to_vec(alloc)?, 8)
 }
 
@@ -145,7 +146,7 @@ fn run_over(
     })
 }
 
-fn global(alloc: Global, rules: &str, readings: &[u8]) -> Result<Ran, AllocError> {
+pub(super) fn global(alloc: Global, rules: &str, readings: &[u8]) -> Result<Ran, AllocError> {
     let rules = source(alloc, rules.as_bytes(), &[])?;
     let readings = source(alloc, readings, &[])?;
     run_with(alloc, &GLOBAL, rules, readings, sink(alloc, &[])?)
@@ -400,7 +401,7 @@ fn a_cycle_is_written_where_no_series_obeys(rt: HostRuntime) -> Result<(), Fail>
 }
 
 /// The first times of each second, and readings that are all 0.
-fn still(alloc: Global, rows: u32) -> Result<String, Fail> {
+pub(super) fn still(alloc: Global, rows: u32) -> Result<String, Fail> {
     let mut text = String::from_str(alloc, "time,x\n")?;
     for row in 0..rows {
         text.push_str(format!(in alloc; "{row},0\n")?.as_str())?;
@@ -493,7 +494,12 @@ fn repeated(alloc: Global, text: &str, other: &str, times: u32) -> Result<String
 }
 
 /// The rules with another text in the place of one of their parts.
-fn changed(alloc: Global, rules: &str, part: &str, other: &str) -> Result<String, AllocError> {
+pub(super) fn changed(
+    alloc: Global,
+    rules: &str,
+    part: &str,
+    other: &str,
+) -> Result<String, AllocError> {
     match rules.split_once(part) {
         Some((before, after)) => format!(in alloc; "{before}{other}{after}"),
         None => String::from_str(alloc, rules),
@@ -565,7 +571,8 @@ fn gives_the_usage(rt: &impl Abort, alloc: Global, texts: &[&str]) -> Result<(),
     let readings = source(alloc, READINGS, &[])?;
     let out = sink(alloc, &[])?;
     let ran = run_with(alloc, texts, rules, readings, out)?;
-    let usage = b"usage: screen global RULES READINGS CERT\n";
+    let usage =
+        b"usage: screen global RULES READINGS CERT\n       screen check RULES READINGS CERT\n";
     ran.assert_is(rt, Status::Usage, b"", b"", usage);
     Ok(())
 }
@@ -600,7 +607,7 @@ fn a_read_that_fails_writes_nothing(rt: HostRuntime) -> Result<(), Fail> {
 }
 
 /// The front of a text that a sink holds which takes eight bytes a call and fails at this one.
-fn front(text: &[u8], call: u64) -> &[u8] {
+pub(super) fn front(text: &[u8], call: u64) -> &[u8] {
     let held = call
         .saturating_sub(1)
         .saturating_mul(8)
@@ -609,7 +616,7 @@ fn front(text: &[u8], call: u64) -> &[u8] {
 }
 
 /// Whether the call is made: a write for each eight bytes, and one that finishes.
-fn is_made(text: &[u8], call: u64) -> bool {
+pub(super) fn is_made(text: &[u8], call: u64) -> bool {
     call <= (text.len() as u64).div_ceil(8) + 1
 }
 

@@ -7,7 +7,7 @@ use Rattle.cert_format.specs.declared.cert.SetLine.{SetLine}
 use Rattle.series_csv.specs.Readings.{places, values}
 use Rattle.bound_maker.specs.Costs.{whole_problem}
 use Rattle.cert_check.specs.Claims.{flow_faults, series_faults}
-use Rattle.cert_check.specs.Repair.{series_set}
+use Rattle.cert_format.specs.Sets.{series_set}
 use Rattle.cert_check.proofs.Faults.{fault_of_first, fault_of_second}
 use Rattle.cert_check.proofs.repair.check_numbers.Goals as goal
 

@@ -1,6 +1,6 @@
 use Rattle.std.proofs.Common.{◌≡◌, drop, length}
 use Rattle.series_csv.specs.Readings.{places, values}
-use Rattle.cert_check.specs.Repair.{series_set}
+use Rattle.cert_format.specs.Sets.{series_set}
 use Rattle.cert_check.proofs.sets.series_with.Given as goal
 
 abbrev pub invariant-loop-line : goal.invariant-loop-line

@@ -4,7 +4,7 @@ use Rattle.std.proofs.lemmas.List.{append-nil, drop_all}
 use mir.Val.{SFits}
 use Rattle.screen_model.specs.declared.place.Place.{Place}
 use Rattle.cert_format.specs.declared.cert.SetLine.{SetLine}
-use Rattle.screen_tool.specs.Certificates.{sets_of}
+use Rattle.cert_format.specs.Sets.{sets_of}
 use Rattle.screen_tool.proofs.Changed.{one_on}
 use Rattle.screen_tool.proofs.cert.sets_of.Goals as goal
 

@@ -1,5 +1,5 @@
 use Rattle.std.proofs.Common.{◌≡◌, ◌++◌, drop}
-use Rattle.screen_tool.specs.Certificates.{sets_of}
+use Rattle.cert_format.specs.Sets.{sets_of}
 use Rattle.screen_tool.proofs.cert.sets_of.Given as goal
 
 abbrev pub invariant-loop-i : goal.invariant-loop-i

@@ -1,15 +1,18 @@
 use Rattle.std.proofs.Common.{◌≡◌, ◌∙◌, Option, Some, subst}
+use Rattle.cert_check.specs.Laws.{IsTrueClaim}
 use Rattle.least_cost.specs.Answer.{CountsChanges}
 use Rattle.screen_tool.specs.declared.command.Command.{Command}
-use Rattle.screen_tool.specs.declared.command.Command.TheVariants.{Global}
+use Rattle.screen_tool.specs.declared.command.Command.TheVariants.{Check, Global}
 use Rattle.screen_tool.specs.declared.status.Ending.TheVariants as ending
 use Rattle.screen_tool.specs.declared.status.Outcome.TheVariants as outcome
 use Rattle.screen_tool.specs.Answers.{Answers, AnswersBy}
+use Rattle.screen_tool.specs.Check.{check_text}
 use Rattle.screen_tool.specs.Command.{roles_of}
 use Rattle.screen_tool.specs.Ending.{status_of}
 use Rattle.screen_tool.specs.Note.{note_text}
 use Rattle.screen_tool.specs.Performance.{IsDue, Performs}
 use Rattle.screen_tool.proofs.Decided.{headline}
+use Rattle.screen_tool.proofs.DecidedCheck.{headline_check}
 use Rattle.screen_tool.proofs.Due.{due}
 use Rattle.screen_tool.proofs.Steps.{noted, performs_noted}
 use Rattle.screen_tool.proofs.program.run.Goals as goal
@@ -46,6 +49,20 @@ returns-clause-headline g c = λ is.
     (headline g.S.Source.left g.S.Source.faults g.K.Sink.held g.K.Sink.faults c.files_are_one.ensures.rules c.files_are_one.ensures.readings c.args.ins.now c.ending_of-ending.new.ins c.args.outs.now outs_now
     (g.V.Solver.most c.ending_of-ending.new.solver) (g.V.Solver.last c.ending_of-ending.new.solver) how given
     (λ done. subst
-    (λ (command : Option Command). Performs g.S.Source.left g.S.Source.faults g.K.Sink.held g.K.Sink.faults (AnswersBy (λ problem. CountsChanges problem (g.V.Solver.most c.ending_of-ending.new.solver) (g.V.Solver.last c.ending_of-ending.new.solver)) command) c.args.ins.now c.ending_of-ending.new.ins c.args.outs.now outs_now (ending.Ended outcome.Done))
+    (λ (command : Option Command). Performs g.S.Source.left g.S.Source.faults g.K.Sink.held g.K.Sink.faults (AnswersBy (λ problem. CountsChanges problem (g.V.Solver.most c.ending_of-ending.new.solver) (g.V.Solver.last c.ending_of-ending.new.solver)) IsTrueClaim command) c.args.ins.now c.ending_of-ending.new.ins c.args.outs.now outs_now (ending.Ended outcome.Done))
     asked (c.ending_of-ending.ensures.counts done))
     (λ failed. c.ending_of-ending.ensures.read_faults asked failed))
+
+pub returns-clause-check : goal.returns-clause-check
+returns-clause-check g c = λ is.
+    let how = c.ending_of-ending.result in
+    let asked : c.command_from.result ≡ Some Check = c.command_from.ensures ∙ is in
+    let outs_now = record c.ending_of-ending.new.outs { note = c.write_all_of.new.sink } in
+    let performed = performs_noted g.S.Source.left g.S.Source.faults g.K.Sink.held g.K.Sink.faults (Answers c.command_from.result) c.args.ins.now c.ending_of-ending.new.ins c.args.outs.now c.ending_of-ending.new.outs c.write_all_of.new.sink how c.ending_of-ending.ensures.performs in
+    let given = subst (λ (command : Option Command). Performs g.S.Source.left g.S.Source.faults g.K.Sink.held g.K.Sink.faults (Answers command) c.args.ins.now c.ending_of-ending.new.ins c.args.outs.now outs_now how) asked performed in
+    rw c.status.ensures
+    (headline_check g.S.Source.left g.S.Source.faults g.K.Sink.held g.K.Sink.faults (λ rules table. check_text) c.files_are_one.ensures.rules c.files_are_one.ensures.readings c.files_are_one.ensures.certs
+    c.args.ins.now c.ending_of-ending.new.ins c.args.outs.now outs_now how given
+    (λ done. subst
+    (λ (command : Option Command). Performs g.S.Source.left g.S.Source.faults g.K.Sink.held g.K.Sink.faults (AnswersBy (λ problem. CountsChanges problem (g.V.Solver.most c.ending_of-ending.new.solver) (g.V.Solver.last c.ending_of-ending.new.solver)) IsTrueClaim command) c.args.ins.now c.ending_of-ending.new.ins c.args.outs.now outs_now (ending.Ended outcome.Done))
+    asked (c.ending_of-ending.ensures.counts done)))
