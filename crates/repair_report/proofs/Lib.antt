@@ -1,0 +1,9 @@
+pub mod ColumnSums
+pub mod Cycles
+pub mod Joined
+pub mod Pigeonhole
+pub mod Priced
+pub mod Runs
+pub mod Sizes
+pub mod Tallying
+pub mod Zipped

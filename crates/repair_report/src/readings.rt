@@ -1,0 +1,105 @@
+//! The readings of a table, one by one, with the values of a series.
+ghost use Rattle.std.specs.Prelude.{◌≡◌, ◌++◌, ◌<◌, ◌≤◌, ◌^◌, Some, List, ◌∷◌, [], filter, length, map, slice_get, OnOk};
+ghost use Rattle.screen_model.specs.declared.limits.TheConstants.{MOST_COLUMNS};
+ghost use Rattle.cert_format.specs.Words.{text_of_lines};
+ghost use Rattle.series_csv.specs.Readings.{places, values};
+ghost use Rattle.bound_maker.specs.Costs.{weights};
+ghost use Rattle.repair_report.specs.declared.reading.Repaired.{Repaired};
+ghost use Rattle.repair_report.specs.Lines.{change_line};
+ghost use Rattle.repair_report.specs.Readings.{is_changed, weighted};
+ghost use Rattle.repair_report.specs.Repairs.{repaired};
+ghost use Rattle.repair_report.specs.RepairLines.{change_lines};
+
+use crate::lines::push_change;
+use crate::reading::{Repaired, is_changed};
+use bound_maker::{names_can_be_written, problem_is_sound, weight_of};
+use rule_file::Rules;
+use screen_model::{Place, Series};
+use series_csv::Table;
+use std::alloc::AllocError;
+
+/// The place of the reading with this number, counted from 0.
+fn place_at(table: &Table, rules: &Rules, i: u32) -> Place
+    requires { i < length (values table.now) }
+    ensures place { slice_get (places table.now) i ≡ Some result }
+    ensures column { result.col ≤ MOST_COLUMNS }
+{
+    names_can_be_written(table, rules);
+    table.places().as_slice()[i as usize]
+}
+
+/// Its weight, which is at most 1,000.
+fn weight_at(table: &Table, rules: &Rules, i: u32) -> u32
+    requires { i < length (values table.now) }
+    ensures weight { slice_get (weights rules.now table.now) i ≡ Some result }
+    ensures most { result ≤ 1000 }
+{
+    problem_is_sound(table, rules);
+    weight_of(table, rules, i)
+}
+
+/// The value with this number in a series, counted from 0.
+fn value_at(series: &Series, i: u32) -> i64
+    requires { i < length series.now }
+    ensures { slice_get series.now i ≡ Some result }
+{
+    series.as_slice()[i as usize]
+}
+
+/// A reading of a weight that is not too great.
+fn light_reading(place: Place, weight: u32, from: i64, to: i64) -> Repaired
+    requires { weight ≤ 1000 }
+    ensures parts { result ≡ record { place = place; weight = weight; from = from; to = to } }
+    ensures light { weighted result ≤ 2 ^ 74 }
+{
+    Repaired {
+        place,
+        weight,
+        from,
+        to,
+    }
+}
+
+/// The reading with this number, counted from 0, and what the series makes of it.
+pub(crate) fn repaired_at(table: &Table, rules: &Rules, series: &Series, i: u32) -> Repaired
+    requires within { i < length (values table.now) }
+    requires whole { length series.now ≡ length (values table.now) }
+    ensures reading { slice_get (repaired rules.now table.now series.now) i ≡ Some result }
+    ensures light { weighted result ≤ 2 ^ 74 }
+    ensures column { result.place.col ≤ MOST_COLUMNS }
+{
+    let place = place_at(table, rules, i);
+    let weight = weight_at(table, rules, i);
+    let from = value_at(table.series(), i);
+    let to = value_at(series, i);
+    light_reading(place, weight, from, to)
+}
+
+/// Adds the line of a reading, if it changed.
+fn push_if_changed(text: &mut Vec<u8>, decimals: u32, reading: Repaired) -> Result<(), AllocError>
+    requires { decimals ≤ 6 }
+    ensures { OnOk result (text.new.items ≡ text.old.items ++ text_of_lines (map (change_line decimals) (filter is_changed (reading ∷ [])))) }
+{
+    if is_changed(reading) {
+        push_change(text, decimals, reading)
+    } else {
+        Ok(())
+    }
+}
+
+/// Adds the line of each reading that changed.
+pub(crate) fn push_changes(
+    text: &mut Vec<u8>,
+    table: &Table,
+    rules: &Rules,
+    series: &Series,
+) -> Result<(), AllocError>
+    requires { length series.now ≡ length (values table.now) }
+    ensures { OnOk result (text.new.items ≡ text.old.items ++ text_of_lines (change_lines rules.now table.now series.now)) }
+{
+    for i in 0..table.len() {
+        let reading = repaired_at(table, rules, series, i);
+        push_if_changed(text, rules.format.decimals, reading)?;
+    }
+    Ok(())
+}
