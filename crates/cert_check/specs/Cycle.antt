@@ -13,7 +13,6 @@ use Rattle.bound_maker.specs.Bounds.{price_of_number}
 use Rattle.bound_maker.specs.Costs.{whole_problem}
 use Rattle.cert_check.specs.declared.fault.CertFault.{CertFault}
 use Rattle.cert_check.specs.declared.fault.CertFault.TheVariants.{UnknownBound, PricedStep, CycleOpen, CycleSum}
-use Rattle.cert_check.specs.declared.cycle.TheConstants.{BEFORE_STEPS}
 use Rattle.cert_check.specs.Repair.{first_line, is_known}
 
 abbrev pub is_same_end : End → End → Bool
@@ -41,20 +40,21 @@ first_open earlier last before (bound ∷ bounds) =
     if is_same_end bound.first last && not (is_among earlier bound.first) then first_open (bound.first ∷ earlier) bound.second (suc before) bounds
     else Some (suc before)
 
+-- The steps come after two lines.
 module _ (rules : Rules) (table : TableView) (steps : List BoundName) where
   -- the bounds of the steps
   abbrev pub cycle_of : List Bound
   cycle_of = map (λ priced. priced.bound) (bounds_named steps (whole_problem rules table).bounds)
 
   abbrev pub unknown_step : Option CertFault
-  unknown_step = option_map UnknownBound (first_line (λ name. not (is_known (whole_problem rules table).bounds name)) BEFORE_STEPS steps)
+  unknown_step = option_map UnknownBound (first_line (λ name. not (is_known (whole_problem rules table).bounds name)) 2 steps)
 
   abbrev pub priced_step : Option CertFault
-  priced_step = option_map PricedStep (first_line (λ (name : BoundName). not (price_of_number rules name.rule == 0)) BEFORE_STEPS steps)
+  priced_step = option_map PricedStep (first_line (λ (name : BoundName). not (price_of_number rules name.rule == 0)) 2 steps)
 
   -- the step before the first one is the last one
   abbrev pub cycle_open : Option CertFault
-  cycle_open = option_map CycleOpen (first_open [] (last_second cycle_of) BEFORE_STEPS cycle_of)
+  cycle_open = option_map CycleOpen (first_open [] (last_second cycle_of) 2 cycle_of)
 
   abbrev pub cycle_sum : Option CertFault
   cycle_sum = let sum = total (map (λ bound. bound.limit) cycle_of) in if int_le (pos 0) sum then Some (CycleSum sum) else None

@@ -31,7 +31,7 @@ use Rattle.screen_tool.specs.Files.{AfterBounds, HasFewBounds, RulesAreOne, Read
 use Rattle.screen_tool.specs.Performance.{IsRead, IsAnswered, Stays, Stops}
 use Rattle.screen_tool.specs.Step.{EndsUnchecked, Ends, IsChecked, IsReplyOf, IsStep, IsStopped, Replies, cert_ending, make_ending, readings_ending, rules_ending}
 use Rattle.screen_tool.proofs.AnswerLaws.{checked_wholly, needs_cert}
-use Rattle.screen_tool.proofs.Steps.{readings_end, rules_end, texts_end}
+use Rattle.screen_tool.proofs.Steps.{one_more, readings_end, rules_end, texts_end}
 
 abbrev Any : Rules → TableView → Accepted → Type 0
 Any rules table accepted = Unit {0}
@@ -87,18 +87,19 @@ module _ {S : Type 0} (left : S → Option (List ℕ)) (source_faults : S → �
     make_ends law ins rules readings found table make.Memory q p many = texts_end left source_faults After (checked_wholly Any text) law ins rules readings found table q p
 
     at_cert : (Happens : ℕ → ℕ → Type 0) → RulesAreOne → ReadingsAreOne → (ins now : Inputs S) (found : Rules) (table : TableView)
-        → RulesRead ins.rules now.rules found → TableRead found ins.readings now.readings table → HasFewBounds found table → IsStopped left source_faults Happens ins.cert now.cert
+        → RulesRead ins.rules now.rules found → TableRead found ins.readings now.readings table → HasFewBounds found table → IsStopped left source_faults longest_cert Happens ins.cert now.cert
         → Stops left source_faults Happens (AnswersChecked Any text) ins now
     at_cert Happens rules_one readings_one ins now found table q p few c =
         inr (inr (record {
           rules_came = q.0;
           readings_came = p.0;
           came = c.0;
+          within = c.1;
           rules = q.1;
           readings = p.1;
           needed = needs_cert Any text rules_one readings_one q.0 p.0 found table q.2 q.3 p.2 p.3 few;
-          taken = c.1;
-          happens = c.2;
+          taken = c.2;
+          happens = c.3;
         }))
 
     -- the certificate is refused, or a read of it failed, or memory runs out
@@ -128,7 +129,7 @@ module _ {S : Type 0} (left : S → Option (List ℕ)) (source_faults : S → �
     pub checked_ends : RulesAreOne → ReadingsAreOne → (ins now : Inputs S) (checked : Checked) → IsChecked left source_faults ins now checked
         → Ends left source_faults (AnswersChecked Any text) ins now ending.Memory
     checked_ends rules_one readings_one ins now checked is =
-        inr (at_cert Stays rules_one readings_one ins now checked.rules checked.table is.rules is.table is.few (is.accepted.0, is.accepted.1.0, is.accepted.1.2))
+        inr (at_cert Stays rules_one readings_one ins now checked.rules checked.table is.rules is.table is.few (is.accepted.0, one_more (length is.accepted.0) longest_cert is.accepted.2, is.accepted.1.0, is.accepted.1.2))
 
     -- the text of what is accepted is the reply
     pub checked_replies : (ins now : Inputs S) (checked : Checked) (reply : Reply) → IsChecked left source_faults ins now checked

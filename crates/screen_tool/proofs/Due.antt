@@ -1,8 +1,9 @@
 -- What is due, from what was performed.
 use Rattle.std.proofs.Common.{◌≡◌, ◌≢◌, inl, inr, ℕ, List, Option, Some, None, refl, sym, ap, subst, ◌∙◌}
+use Rattle.repair_report.specs.Report.{report_text}
 use Rattle.screen_io.proofs.WholeReads.{taken_front, taken_whole}
 use Rattle.screen_tool.specs.declared.command.Command.{Command}
-use Rattle.screen_tool.specs.declared.command.Command.TheVariants.{Check, Global}
+use Rattle.screen_tool.specs.declared.command.Command.TheVariants.{Check, Global, Report, Sample}
 use Rattle.screen_tool.specs.declared.ends.EndUse.{EndUse}
 use Rattle.screen_tool.specs.declared.ends.EndUse.TheVariants.{Word, Input, Output, Nothing}
 use Rattle.screen_tool.specs.declared.ends.Inputs.{Inputs}
@@ -16,6 +17,7 @@ use Rattle.screen_tool.specs.Ending.{outcome_status, status_of}
 use Rattle.screen_tool.specs.Check.{check_text}
 use Rattle.screen_tool.specs.Performance.{IsRead, IsAnswered, IsCut, IsWritten, LeavesUnused, Performs, AreTold, IsDue}
 use Rattle.screen_tool.proofs.AnswerLaws.{checked_has, found_reads, global_has}
+use Rattle.screen_tool.proofs.SampleLaws.{sample_cert}
 
 -- ---- what came of a source is the front of what it told
 
@@ -38,11 +40,15 @@ module _ {S : Type 0} (left : S → Option (List ℕ)) (source_faults : S → �
 pub rules_unread : (command : Option Command) (bytes : Inputs (List ℕ)) (answer : Answer) → Answers command bytes answer → (roles_of command).rules ≡ Nothing → answer.read.rules ≡ Unread
 rules_unread (Some Global) bytes answer p none = cc
 rules_unread (Some Check) bytes answer p none = cc
+rules_unread (Some Report) bytes answer p none = cc
+rules_unread (Some (Sample rows seed)) bytes answer p none = ap (λ (a : Answer). a.read.rules) p.2
 rules_unread None bytes answer p none = ap (λ (a : Answer). a.read.rules) p
 
 pub readings_unread : (command : Option Command) (bytes : Inputs (List ℕ)) (answer : Answer) → Answers command bytes answer → (roles_of command).readings ≡ Nothing → answer.read.readings ≡ Unread
 readings_unread (Some Global) bytes answer p none = cc
 readings_unread (Some Check) bytes answer p none = cc
+readings_unread (Some Report) bytes answer p none = cc
+readings_unread (Some (Sample rows seed)) bytes answer p none = ap (λ (a : Answer). a.read.readings) p.2
 readings_unread None bytes answer p none = ap (λ (a : Answer). a.read.readings) p
 
 pub cert_unread : (command : Option Command) (bytes : Inputs (List ℕ)) (answer : Answer) → Answers command bytes answer → (roles_of command).cert_read ≡ Nothing → answer.read.cert ≡ Unread
@@ -50,6 +56,8 @@ cert_unread (Some Global) bytes answer p none =
     global_has (λ problem outcome. Unit {0}) (λ a. a.read.cert ≡ Unread) bytes answer refl (λ fault. refl) refl (λ fault. refl) refl
     (λ rules table outcome. ap (λ (read : Inputs Extent). read.cert) (found_reads rules table outcome)) p
 cert_unread (Some Check) bytes answer p none = cc
+cert_unread (Some Report) bytes answer p none = cc
+cert_unread (Some (Sample rows seed)) bytes answer p none = ap (λ (a : Answer). a.read.cert) p.2
 cert_unread None bytes answer p none = ap (λ (a : Answer). a.read.cert) p
 
 -- ---- nor does it write a certificate to a sink that it has no use for
@@ -58,6 +66,9 @@ cert_unwritten : (command : Option Command) (bytes : Inputs (List ℕ)) (answer 
 cert_unwritten (Some Global) bytes answer p none = cc
 cert_unwritten (Some Check) bytes answer p none =
     checked_has (λ rules table accepted. Unit {0}) (λ rules table. check_text) (λ a. a.cert ≡ None) bytes answer refl (λ fault. refl) refl (λ fault. refl) refl refl (λ fault. refl) (λ written. refl) p
+cert_unwritten (Some Report) bytes answer p none =
+    checked_has (λ rules table accepted. Unit {0}) report_text (λ a. a.cert ≡ None) bytes answer refl (λ fault. refl) refl (λ fault. refl) refl refl (λ fault. refl) (λ written. refl) p
+cert_unwritten (Some (Sample rows seed)) bytes answer p none = sample_cert (λ problem outcome. Unit {0}) rows seed answer p
 cert_unwritten None bytes answer p none = ap (λ (a : Answer). a.cert) p
 
 none_written : {K : Type 0} (held : K → Option (List ℕ)) (sink_faults : K → ℕ) (text : Option (List ℕ)) (sink now : K) → text ≡ None → IsWritten held sink_faults text sink now → now ≡ sink
@@ -69,12 +80,16 @@ none_cut held sink_faults text sink now p cut = subst (λ (t : Option (List ℕ)
 out_unwritten : (command : Option Command) (bytes : Inputs (List ℕ)) (answer : Answer) → Answers command bytes answer → (roles_of command).out ≡ Nothing → answer.out ≡ None
 out_unwritten (Some Global) bytes answer p none = cc
 out_unwritten (Some Check) bytes answer p none = cc
+out_unwritten (Some Report) bytes answer p none = cc
+out_unwritten (Some (Sample rows seed)) bytes answer p none = cc
 out_unwritten None bytes answer p none = ap (λ (a : Answer). a.out) p
 
 -- who has no use for readings has none for rules
 same_use : (command : Option Command) → (roles_of command).readings ≡ Nothing → (roles_of command).rules ≡ Nothing
 same_use (Some Global) none = cc
 same_use (Some Check) none = cc
+same_use (Some Report) none = cc
+same_use (Some (Sample rows seed)) none = refl
 same_use None none = refl
 
 module _ {S K : Type 0} (left : S → Option (List ℕ)) (source_faults : S → ℕ) (held : K → Option (List ℕ)) (sink_faults : K → ℕ) where

@@ -5,9 +5,13 @@ pub mod CheckSteps
 pub mod Priced
 pub mod Changed
 pub mod Written
+pub mod SampleLaws
+pub mod SampleSteps
 pub mod Steps
 pub mod Due
+pub mod FileWords
 pub mod Found
 pub mod NoteWords
+pub mod NumberWords
 pub mod Decided
 pub mod DecidedCheck

@@ -1,5 +1,5 @@
 -- From the steps of a command to what it performs.
-use Rattle.std.proofs.Common.{◌≡◌, ◌≢◌, inl, inr, ℕ, ◌≤◌, ◌<◌, List, [], length, Option, Some, None, Result, Ok, Err, OnOk, OnErr, MatchResult, refl, sym, subst}
+use Rattle.std.proofs.Common.{◌≡◌, ◌≢◌, inl, inr, ℕ, ◌+◌, ◌≤◌, ◌<◌, arith, List, [], length, Option, Some, None, Result, Ok, Err, OnOk, OnErr, MatchResult, refl, sym, subst}
 use Rattle.global_repair.specs.declared.fault.RepairFault.{RepairFault}
 use Rattle.global_repair.specs.declared.fault.RepairFault.TheVariants as repair
 use Rattle.least_cost.specs.declared.outcome.Outcome.{Outcome as Found}
@@ -39,13 +39,16 @@ use Rattle.screen_tool.proofs.BothFiles.{needs_readings, needs_rules}
 
 -- ---- a file that was read, and what was found in it
 
+pub one_more : (n m : ℕ) → n ≤ m → n ≤ m + 1
+one_more n m p = omega (arith, p)
+
 module _ {S : Type 0} (left : S → Option (List ℕ)) (source_faults : S → ℕ) where
   pub step_found : {A F : Type 0} (longest : ℕ) (Reads : List ℕ → Result A F → Type 0) (source now : S) (came seen : List ℕ) (answer : Result A (StepFault F))
       → IsRead left source_faults Whole source now came → length came ≤ longest → seen ≡ came → IsFound Reads seen answer
       → IsStep left source_faults longest Reads source now answer
   step_found longest Reads source now came seen (Ok value) whole short same found = (came, whole, short, subst (λ (b : List ℕ). Reads b (Ok value)) same found)
   step_found longest Reads source now came seen (Err (fault.Refused f)) whole short same found = (came, whole, short, subst (λ (b : List ℕ). Reads b (Err f)) same found)
-  step_found longest Reads source now came seen (Err fault.Memory) whole short same found = (came, whole.0, whole.2)
+  step_found longest Reads source now came seen (Err fault.Memory) whole short same found = (came, one_more (length came) longest short, whole.0, whole.2)
   step_found longest Reads source now came seen (Err fault.TooLong) whole short same found = absurd found
   step_found longest Reads source now came seen (Err fault.Failed) whole short same found = absurd found
 
@@ -60,9 +63,9 @@ module _ {S : Type 0} (left : S → Option (List ℕ)) (source_faults : S → �
 
   module _ (Follows : Rules → TableView → List ℕ → Answer → Type 0)
       (wholly : (rules : Rules) (table : TableView) (cert : List ℕ) (answer : Answer) → Follows rules table cert answer → (answer.read.rules ≡ Whole) × (answer.read.readings ≡ Whole)) where
-    at_rules : (Happens : ℕ → ℕ → Type 0) (ins : Inputs S) (rules : S) → IsStopped left source_faults Happens ins.rules rules
+    at_rules : (Happens : ℕ → ℕ → Type 0) (ins : Inputs S) (rules : S) → IsStopped left source_faults longest_rules Happens ins.rules rules
         → Stops left source_faults Happens (AfterBoth Follows) ins (record ins { rules = rules })
-    at_rules Happens ins rules p = inl (record { came = p.0; needed = needs_rules Follows wholly; taken = p.1; happens = p.2; readings = refl; cert = refl })
+    at_rules Happens ins rules p = inl (record { came = p.0; within = p.1; needed = needs_rules Follows wholly; taken = p.2; happens = p.3; readings = refl; cert = refl })
 
     pub rules_end : (ins : Inputs S) (rules : S) (given : StepFault RuleFault) → IsStep left source_faults longest_rules ReadsFile ins.rules rules (Err given)
         → Ends left source_faults (AfterBoth Follows) ins (record ins { rules = rules }) (rules_ending given)
@@ -84,10 +87,10 @@ module _ {S : Type 0} (left : S → Option (List ℕ)) (source_faults : S → �
     rules_end ins rules fault.Memory p = inr (at_rules Stays ins rules p)
 
     pub at_readings : (Happens : ℕ → ℕ → Type 0) → RulesAreOne → (ins : Inputs S) (rules readings : S) (found : Rules)
-        → IsStep left source_faults longest_rules ReadsFile ins.rules rules (Ok found) → IsStopped left source_faults Happens ins.readings readings
+        → IsStep left source_faults longest_rules ReadsFile ins.rules rules (Ok found) → IsStopped left source_faults longest_readings Happens ins.readings readings
         → Stops left source_faults Happens (AfterBoth Follows) ins (record ins { rules = rules; readings = readings })
     at_readings Happens law ins rules readings found q p =
-        inr (inl (record { rules_came = q.0; came = p.0; rules = q.1; needed = needs_readings Follows wholly law q.0 found q.2 q.3; taken = p.1; happens = p.2; cert = refl }))
+        inr (inl (record { rules_came = q.0; came = p.0; within = p.1; rules = q.1; needed = needs_readings Follows wholly law q.0 found q.2 q.3; taken = p.2; happens = p.3; cert = refl }))
 
     pub readings_end : RulesAreOne → (ins : Inputs S) (rules readings : S) (found : Rules) (given : StepFault TableFault)
         → IsStep left source_faults longest_rules ReadsFile ins.rules rules (Ok found)
@@ -115,7 +118,7 @@ module _ {S : Type 0} (left : S → Option (List ℕ)) (source_faults : S → �
         → IsStep left source_faults longest_rules ReadsFile ins.rules rules (Ok found)
         → IsStep left source_faults longest_readings (ReadsTable found) ins.readings readings (Ok table)
         → Ends left source_faults (AfterBoth Follows) ins (record ins { rules = rules; readings = readings }) ending.Memory
-    texts_end law ins rules readings found table q p = inr (at_readings Stays law ins rules readings found q (p.0, p.1.0, p.1.2))
+    texts_end law ins rules readings found table q p = inr (at_readings Stays law ins rules readings found q (p.0, one_more (length p.0) longest_readings p.2, p.1.0, p.1.2))
 
   pub usage_ends : (command : Option Command) (ins : Inputs S) → command ≡ None → Ends left source_faults (Answers command) ins ins (ending.Ended Usage)
   usage_ends command ins none = (
@@ -171,7 +174,7 @@ module _ {S : Type 0} (left : S → Option (List ℕ)) (source_faults : S → �
       → rules_ending given ≡ ending.ReadFault → Rose (source_faults ins.rules) (source_faults rules)
   rules_counted ins rules fault.TooLong p e = absurd (cc e)
   rules_counted ins rules (fault.Refused f) p e = absurd (cc e)
-  rules_counted ins rules fault.Failed p e = p.2
+  rules_counted ins rules fault.Failed p e = p.3
   rules_counted ins rules fault.Memory p e = absurd (cc e)
 
   pub readings_counted : (ins : Inputs S) (readings : S) (found : Rules) (given : StepFault TableFault)
@@ -179,7 +182,7 @@ module _ {S : Type 0} (left : S → Option (List ℕ)) (source_faults : S → �
       → readings_ending given ≡ ending.ReadFault → Rose (source_faults ins.readings) (source_faults readings)
   readings_counted ins readings found fault.TooLong p e = absurd (cc e)
   readings_counted ins readings found (fault.Refused f) p e = absurd (cc e)
-  readings_counted ins readings found fault.Failed p e = p.2
+  readings_counted ins readings found fault.Failed p e = p.3
   readings_counted ins readings found fault.Memory p e = absurd (cc e)
 
   -- what comes of accepted files is no failed read

@@ -6,13 +6,15 @@ use Rattle.rule_file.specs.declared.rules.Rules.{Rules}
 use Rattle.screen_model.specs.Cost.{Problem}
 use Rattle.series_csv.specs.File.{TableView}
 use Rattle.screen_tool.specs.declared.command.Command.{Command}
-use Rattle.screen_tool.specs.declared.command.Command.TheVariants.{Check, Global}
+use Rattle.screen_tool.specs.declared.command.Command.TheVariants.{Check, Global, Report, Sample}
 use Rattle.screen_tool.specs.declared.ends.Inputs.{Inputs}
 use Rattle.screen_tool.specs.declared.status.Outcome.TheVariants.{Usage}
 use Rattle.screen_tool.specs.Answer.{Unread, Answer, AreFronts}
 use Rattle.screen_tool.specs.Check.{AnswersCheckBy}
 use Rattle.screen_tool.specs.Files.{without_texts}
 use Rattle.screen_tool.specs.Global.{AnswersGlobalBy}
+use Rattle.screen_tool.specs.Report.{AnswersReportBy}
+use Rattle.screen_tool.specs.Sample.{AnswersSampleBy}
 
 -- Words that ask for no command are answered with the usage text, and nothing is read.
 abbrev pub usage : Answer
@@ -23,6 +25,8 @@ usage = without_texts Usage Unread Unread
 abbrev pub AnswersBy : (Problem → Found → Type 0) → (Rules → TableView → Accepted → Type 0) → Option Command → Inputs (List ℕ) → Answer → Type 0
 AnswersBy Counts Holds (Some Global) bytes answer = AnswersGlobalBy Counts bytes answer
 AnswersBy Counts Holds (Some Check) bytes answer = AnswersCheckBy Holds bytes answer
+AnswersBy Counts Holds (Some Report) bytes answer = AnswersReportBy Holds bytes answer
+AnswersBy Counts Holds (Some (Sample rows seed)) bytes answer = AnswersSampleBy Counts rows seed answer
 AnswersBy Counts Holds None bytes answer = answer ≡ usage
 
 abbrev pub Answers : Option Command → Inputs (List ℕ) → Answer → Type 0

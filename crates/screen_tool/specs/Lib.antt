@@ -12,4 +12,6 @@ pub mod HeadlineCheck
 pub mod Note
 pub mod Performance
 pub mod RealEnds
+pub mod Report
+pub mod Sample
 pub mod Step

@@ -71,6 +71,8 @@ abbrev pub usage_text : List ℕ
 usage_text =
     codes "usage: screen global RULES READINGS CERT\n"
     ++ codes "       screen check RULES READINGS CERT\n"
+    ++ codes "       screen report RULES READINGS CERT\n"
+    ++ codes "       screen sample ROWS SEED\n"
 
 -- why the readings are refused, with the row and the column
 abbrev pub readings_text : List ℕ → ℕ → ℕ → List ℕ

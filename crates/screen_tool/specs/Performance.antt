@@ -2,10 +2,13 @@
 -- holds, where they tell it; `source_faults` and `sink_faults` are what they count. A source or sink that tells nothing,
 -- as a file of the system, meets with any bytes what is said of bytes here: what is said of counts, of order and of ends
 -- that stay the same holds of it all the same.
-use Rattle.std.specs.Prelude.{◌≡◌, ◌≢◌, ◌⊎◌, ℕ, List, length, Option, Some, None}
+use Rattle.std.specs.Prelude.{◌≡◌, ◌≢◌, ◌⊎◌, ℕ, ◌+◌, ◌≤◌, List, length, Option, Some, None}
+use Rattle.cert_format.specs.declared.limits.TheConstants.{LONGEST as longest_cert}
+use Rattle.rule_file.specs.declared.read.TheConstants.{LONGEST as longest_rules}
 use Rattle.screen_io.specs.Faults.{Rose}
 use Rattle.screen_io.specs.Sink.{Gains, GainsPrefix}
 use Rattle.screen_io.specs.Source.{Takes, IsAtEnd}
+use Rattle.series_csv.specs.declared.table.TheConstants.{LONGEST as longest_readings}
 use Rattle.screen_tool.specs.declared.ends.EndUse.TheVariants.{Nothing}
 use Rattle.screen_tool.specs.declared.ends.Inputs.{Inputs}
 use Rattle.screen_tool.specs.declared.ends.Outputs.{Outputs}
@@ -41,10 +44,11 @@ module _ {S : Type 0} (left : S → Option (List ℕ)) (source_faults : S → �
   abbrev pub IsAnswered : IsAnswerTo → Inputs S → Inputs S → Answer → Type 0
   IsAnswered Answers ins now answer = (bytes : Inputs (List ℕ)) × Answers bytes answer × AreRead answer.read ins now bytes
 
-  -- The command stops at a source, of which these bytes came, and this happened to its count of faults. What was read
-  -- before it calls for no answer without it, and the sources after it were not begun.
+  -- The command stops at a source, of which these bytes came, at most one beyond its limit, and this happened to its count of
+  -- faults. What was read before it calls for no answer without it, and the sources after it were not begun.
   pub record StopsAtRules (Happens : ℕ → ℕ → Type 0) (Answers : IsAnswerTo) (ins now : Inputs S) : Type 0 where
     pub came : List ℕ
+    pub within : length came ≤ longest_rules + 1
     pub needed : (bytes : Inputs (List ℕ)) (answer : Answer) → Answers bytes answer → answer.read.rules ≢ Unread
     pub taken : Takes (left ins.rules) came (left now.rules)
     pub happens : Happens (source_faults ins.rules) (source_faults now.rules)
@@ -54,6 +58,7 @@ module _ {S : Type 0} (left : S → Option (List ℕ)) (source_faults : S → �
   pub record StopsAtReadings (Happens : ℕ → ℕ → Type 0) (Answers : IsAnswerTo) (ins now : Inputs S) : Type 0 where
     pub rules_came : List ℕ
     pub came : List ℕ
+    pub within : length came ≤ longest_readings + 1
     pub rules : IsRead Whole ins.rules now.rules rules_came
     pub needed : (bytes : Inputs (List ℕ)) (answer : Answer) → bytes.rules ≡ rules_came → Answers bytes answer → answer.read.readings ≢ Unread
     pub taken : Takes (left ins.readings) came (left now.readings)
@@ -64,6 +69,7 @@ module _ {S : Type 0} (left : S → Option (List ℕ)) (source_faults : S → �
     pub rules_came : List ℕ
     pub readings_came : List ℕ
     pub came : List ℕ
+    pub within : length came ≤ longest_cert + 1
     pub rules : IsRead Whole ins.rules now.rules rules_came
     pub readings : IsRead Whole ins.readings now.readings readings_came
     pub needed : (bytes : Inputs (List ℕ)) (answer : Answer) → bytes.rules ≡ rules_came → bytes.readings ≡ readings_came

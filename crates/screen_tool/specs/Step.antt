@@ -88,9 +88,10 @@ Comes Answers (Err ending.WriteFault) = ⊥
 Comes Answers (Err ending.Memory) = Unit {0}
 
 module _ {S : Type 0} (left : S → Option (List ℕ)) (source_faults : S → ℕ) where
-  -- Reading stopped, and what came is the front of what was there; this happened to the count of faults.
-  abbrev pub IsStopped : (ℕ → ℕ → Type 0) → S → S → Type 0
-  IsStopped Happens source now = (came : List ℕ) × Takes (left source) came (left now) × Happens (source_faults source) (source_faults now)
+  -- Reading stopped, and what came is the front of what was there, of at most one byte beyond the limit; this happened to the
+  -- count of faults.
+  abbrev pub IsStopped : ℕ → (ℕ → ℕ → Type 0) → S → S → Type 0
+  IsStopped longest Happens source now = (came : List ℕ) × (length came ≤ longest + 1) × Takes (left source) came (left now) × Happens (source_faults source) (source_faults now)
 
   -- More came than the limit, and no more than one byte beyond it.
   abbrev pub IsTooLong : ℕ → S → S → Type 0
@@ -100,8 +101,8 @@ module _ {S : Type 0} (left : S → Option (List ℕ)) (source_faults : S → �
   abbrev pub WasRead : {F : Type 0} → ℕ → S → S → Result (Vec ℕ Heap) (StepFault F) → Type 0
   WasRead longest source now (Ok bytes) = IsRead left source_faults Whole source now bytes.items × (length bytes.items ≤ longest)
   WasRead longest source now (Err TooLong) = IsTooLong longest source now
-  WasRead longest source now (Err Failed) = IsStopped Rose source now
-  WasRead longest source now (Err Memory) = IsStopped Stays source now
+  WasRead longest source now (Err Failed) = IsStopped longest Rose source now
+  WasRead longest source now (Err Memory) = IsStopped longest Stays source now
   WasRead longest source now (Err (Refused fault)) = ⊥
 
   -- What a step leaves that reads such a file.
@@ -111,8 +112,8 @@ module _ {S : Type 0} (left : S → Option (List ℕ)) (source_faults : S → �
   IsStep longest Reads source now (Err TooLong) = IsTooLong longest source now
   IsStep longest Reads source now (Err (Refused fault)) =
       (bytes : List ℕ) × IsRead left source_faults Whole source now bytes × (length bytes ≤ longest) × Reads bytes (Err fault)
-  IsStep longest Reads source now (Err Failed) = IsStopped Rose source now
-  IsStep longest Reads source now (Err Memory) = IsStopped Stays source now
+  IsStep longest Reads source now (Err Failed) = IsStopped longest Rose source now
+  IsStep longest Reads source now (Err Memory) = IsStopped longest Stays source now
 
   -- the command's sources were read for this reply
   abbrev pub Replies : IsAnswerTo → Inputs S → Inputs S → Reply → Type 0

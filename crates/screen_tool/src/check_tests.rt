@@ -15,10 +15,19 @@ const READINGS: &str = "time,x\n0,10\n1,11\n2,20\n3,13\n";
 
 const CERT: &str = "screen-cert 1\nclaim repair\ntotal 8\nset 3 2 12\nflow 1 2 3 2 up 1\nend\n";
 
-/// The words of `check`.
+/// What is reported of it.
+const REPORTED: &str =
+    "claim repair\ntotal 8\ncolumn  readings   changed                    change\n     2         4         1                         8\nchange 3 2 20 12\nflow 1 2 3 2 up 1\n";
+
+/// The words of `check`, and of `report`.
 const CHECK: [&str; 4] = ["check", "r", "d", "c"];
 
-/// A run of `check`: how it ended, what it wrote, and whether there is more of its certificate to read.
+const REPORT: [&str; 4] = ["report", "r", "d", "c"];
+
+/// The commands that check a certificate, and what each writes of this one.
+const COMMANDS: [([&str; 4], &str); 2] = [(CHECK, "accepted repair 8\n"), (REPORT, REPORTED)];
+
+/// A run of such a command: how it ended, what it wrote, and whether there is more of its certificate to read.
 #[derive(Drop)]
 struct Ran {
     status: Status,
@@ -39,6 +48,7 @@ impl Ran {
 
 fn run_over(
     alloc: Global,
+    command: &[&str],
     mut ins: Inputs<MemSource>,
     out: MemSink,
     note: MemSink,
@@ -48,7 +58,7 @@ fn run_over(
         cert: sink(alloc, &[])?,
         note,
     };
-    let words = words(alloc, &CHECK)?;
+    let words = words(alloc, command)?;
     let mut solver = PathSolver::new(alloc);
     let status = run(alloc, words.as_slice(), &mut ins, &mut outs, &mut solver);
     let unread = ins.cert.read(&mut [0; 4]) != Ok(0);
@@ -77,7 +87,7 @@ fn inputs(
 
 fn check(alloc: Global, rules: &str, readings: &[u8], cert: &[u8]) -> Result<Ran, AllocError> {
     let ins = inputs(alloc, rules, readings, cert, (0, 0, 0))?;
-    run_over(alloc, ins, sink(alloc, &[])?, sink(alloc, &[])?)
+    run_over(alloc, &CHECK, ins, sink(alloc, &[])?, sink(alloc, &[])?)
 }
 
 /// Rules and readings, and what is answered to the certificate that `global` writes of them.
@@ -201,16 +211,18 @@ fn is_read(text: &str, call: u64) -> bool {
 }
 
 #[test]
-fn a_read_of_a_check_that_fails_writes_nothing(rt: HostRuntime) -> Result<(), Fail> {
+fn a_read_that_fails_writes_nothing(rt: HostRuntime) -> Result<(), Fail> {
     let alloc = rt.alloc();
-    for call in 0..8u64 {
-        for fails in [(call, 0, 0), (0, call, 0), (0, 0, call)] {
-            let ins = inputs(alloc, BASE, READINGS.as_bytes(), CERT.as_bytes(), fails)?;
-            let ran = run_over(alloc, ins, sink(alloc, &[])?, sink(alloc, &[])?)?;
-            if is_read(BASE, fails.0) || is_read(READINGS, fails.1) || is_read(CERT, fails.2) {
-                ran.assert_is(&rt, Status::ReadFault, b"", b"screen: a read failed\n");
-            } else {
-                ran.assert_is(&rt, Status::Done, b"accepted repair 8\n", b"");
+    for (command, text) in COMMANDS {
+        for call in 0..8u64 {
+            for fails in [(call, 0, 0), (0, call, 0), (0, 0, call)] {
+                let ins = inputs(alloc, BASE, READINGS.as_bytes(), CERT.as_bytes(), fails)?;
+                let ran = run_over(alloc, &command, ins, sink(alloc, &[])?, sink(alloc, &[])?)?;
+                if is_read(BASE, fails.0) || is_read(READINGS, fails.1) || is_read(CERT, fails.2) {
+                    ran.assert_is(&rt, Status::ReadFault, b"", b"screen: a read failed\n");
+                } else {
+                    ran.assert_is(&rt, Status::Done, text.as_bytes(), b"");
+                }
             }
         }
     }
@@ -218,30 +230,45 @@ fn a_read_of_a_check_that_fails_writes_nothing(rt: HostRuntime) -> Result<(), Fa
 }
 
 #[test]
-fn an_output_of_a_check_that_fails_holds_a_front(rt: HostRuntime) -> Result<(), Fail> {
+fn an_output_that_fails_holds_a_front(rt: HostRuntime) -> Result<(), Fail> {
     let alloc = rt.alloc();
-    let text = b"accepted repair 8\n";
-    for call in 1..6u64 {
-        let ins = inputs(alloc, BASE, READINGS.as_bytes(), CERT.as_bytes(), (0, 0, 0))?;
-        let ran = run_over(alloc, ins, sink(alloc, &[call])?, sink(alloc, &[])?)?;
-        if is_made(text, call) {
-            let held = front(text, call);
-            ran.assert_is(&rt, Status::WriteFault, held, b"screen: a write failed\n");
-        } else {
-            ran.assert_is(&rt, Status::Done, text, b"");
+    for (command, text) in COMMANDS {
+        for call in 1..25u64 {
+            let ins = inputs(alloc, BASE, READINGS.as_bytes(), CERT.as_bytes(), (0, 0, 0))?;
+            let ran = run_over(
+                alloc,
+                &command,
+                ins,
+                sink(alloc, &[call])?,
+                sink(alloc, &[])?,
+            )?;
+            if is_made(text.as_bytes(), call) {
+                let held = front(text.as_bytes(), call);
+                ran.assert_is(&rt, Status::WriteFault, held, b"screen: a write failed\n");
+            } else {
+                ran.assert_is(&rt, Status::Done, text.as_bytes(), b"");
+            }
         }
     }
     Ok(())
 }
 
 #[test]
-fn a_note_of_a_check_that_fails_changes_no_status(rt: HostRuntime) -> Result<(), Fail> {
+fn a_note_that_fails_changes_no_status(rt: HostRuntime) -> Result<(), Fail> {
     let alloc = rt.alloc();
     let note = b"screen: certificate refused: Syntax 1\n";
-    for call in 1..6u64 {
-        let ins = inputs(alloc, BASE, READINGS.as_bytes(), b"", (0, 0, 0))?;
-        let ran = run_over(alloc, ins, sink(alloc, &[])?, sink(alloc, &[call])?)?;
-        ran.assert_is(&rt, Status::CertRefused, b"", front(note, call));
+    for (command, _) in COMMANDS {
+        for call in 1..6u64 {
+            let ins = inputs(alloc, BASE, READINGS.as_bytes(), b"", (0, 0, 0))?;
+            let ran = run_over(
+                alloc,
+                &command,
+                ins,
+                sink(alloc, &[])?,
+                sink(alloc, &[call])?,
+            )?;
+            ran.assert_is(&rt, Status::CertRefused, b"", front(note, call));
+        }
     }
     Ok(())
 }

@@ -74,7 +74,7 @@ fn bytes_from<S: Source, F>(
 }
 
 /// The rules that the bytes spell.
-fn rules_of(alloc: Global, bytes: &[u8]) -> Result<Rules, StepFault<RuleFault>>
+pub(crate) fn rules_of(alloc: Global, bytes: &[u8]) -> Result<Rules, StepFault<RuleFault>>
     ensures { IsFound ReadsFile bytes.now result }
 {
     match read_rules(alloc, bytes) {
@@ -85,7 +85,11 @@ fn rules_of(alloc: Global, bytes: &[u8]) -> Result<Rules, StepFault<RuleFault>>
 }
 
 /// The table that the bytes spell.
-fn table_of(alloc: Global, rules: &Rules, bytes: &[u8]) -> Result<Table, StepFault<TableFault>>
+pub(crate) fn table_of(
+    alloc: Global,
+    rules: &Rules,
+    bytes: &[u8],
+) -> Result<Table, StepFault<TableFault>>
     ensures { IsFound (ReadsTable rules.now) bytes.now result }
 {
     match read_table(alloc, rules, bytes) {

@@ -20,6 +20,10 @@ mod outside;
 mod prices;
 mod program;
 mod reply;
+mod report;
+mod sample;
+#[cfg(test)]
+mod sample_tests;
 mod status;
 mod step;
 #[cfg(test)]

@@ -20,7 +20,7 @@ pub(crate) const ROOM: usize = 192;
 pub(crate) type Note = ArrayString<ROOM>;
 
 const USAGE: &str =
-    "usage: screen global RULES READINGS CERT\n       screen check RULES READINGS CERT\n";
+    "usage: screen global RULES READINGS CERT\n       screen check RULES READINGS CERT\n       screen report RULES READINGS CERT\n       screen sample ROWS SEED\n";
 
 /// What the program says of an ending.
 pub(crate) fn note_of(ending: &Ending) -> Note

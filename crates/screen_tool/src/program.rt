@@ -1,6 +1,7 @@
 //! What the program does with its words, its sources and its sinks.
-ghost use Rattle.std.specs.Prelude.{◌≡◌, ◌≢◌, ◌↔◌, Some, None, Err, IfOk, MatchResult};
+ghost use Rattle.std.specs.Prelude.{◌≡◌, ◌≢◌, ◌↔◌, ℕ, Some, None, Err, IfOk, MatchResult};
 ghost use Rattle.cert_check.specs.Laws.{IsTrueClaim};
+ghost use Rattle.repair_report.specs.Report.{report_text};
 ghost use Rattle.screen_tool.specs.Answer.{Answer};
 ghost use Rattle.least_cost.specs.Answer.{CountsChanges};
 ghost use Rattle.screen_tool.specs.Answers.{Answers, AnswersBy};
@@ -11,6 +12,7 @@ ghost use Rattle.screen_tool.specs.Headline.{CountsReadFault, Headline};
 ghost use Rattle.screen_tool.specs.HeadlineCheck.{HeadlineCheck};
 ghost use Rattle.screen_tool.specs.Note.{note_text};
 ghost use Rattle.screen_tool.specs.Performance.{AreCut, AreWritten, IsDue, IsNoted, LeavesUnused, Performs};
+ghost use Rattle.screen_tool.specs.Sample.{HasLimits, WritesSummary};
 ghost use Rattle.screen_tool.specs.Step.{Ends, IsReplyOf, Replies};
 ghost use Rattle.screen_tool.specs.declared.ends.EndUse.TheVariants.{Nothing};
 
@@ -21,6 +23,8 @@ use crate::global::global;
 use crate::laws::{files_are_one, one_outcome, rests_on_read};
 use crate::note::note_of;
 use crate::reply::{Reply, write_text};
+use crate::report::report;
+use crate::sample::sample;
 use crate::status::{Ending, Outcome, Status};
 use flow_core::Solver;
 use screen_io::{Failed, Sink, Source, write_all_of};
@@ -30,10 +34,15 @@ use std::alloc::Global;
 ///
 /// `global RULES READINGS CERT` reads the rules and then the readings, and writes a certificate and the
 /// repaired readings. Where no series obeys the rules it writes the certificate alone, and answers [`Status::NoSeries`].
-/// The solver does the repair; no other command uses it.
+/// The solver does the repair; no other command but `sample` uses it.
 ///
 /// `check RULES READINGS CERT` reads the rules, the readings and the certificate, and writes a line that tells which claim is
 /// accepted. Where the certificate is refused it writes nothing, and answers [`Status::CertRefused`].
+///
+/// `report RULES READINGS CERT` does the same, and writes what the certificate says of the readings, for a reader.
+///
+/// `sample ROWS SEED` reads nothing. It makes so many rows of readings from the number, repairs them, and writes how many
+/// readings are changed, and by how much.
 ///
 /// Every text is made before the first is written. A note that can't be written changes nothing.
 pub fn run<S: Source, K: Sink, V: Solver>(
@@ -56,7 +65,9 @@ pub fn run<S: Source, K: Sink, V: Solver>(
     ensures due { IsDue S.left (roles_of (command_of (texts words.now))) (Answers (command_of (texts words.now))) ins.old result }
 
     // The solver is left where no repair is asked for, and what it tells of itself stays.
-    ensures solver_stays { command_of (texts words.now) ≢ Some Command.Global → solver.new ≡ solver.old }
+    ensures check_leaves { command_of (texts words.now) ≡ Some Command.Check → solver.new ≡ solver.old }
+    ensures report_leaves { command_of (texts words.now) ≡ Some Command.Report → solver.new ≡ solver.old }
+    ensures none_leaves { command_of (texts words.now) ≡ None → solver.new ≡ solver.old }
     ensures most_stays { V.most solver.new ≡ V.most solver.old }
 
     // What the program is for.
@@ -64,6 +75,10 @@ pub fn run<S: Source, K: Sink, V: Solver>(
         Headline S.left S.faults K.held K.faults ins.old ins.new outs.old outs.new (V.most solver.new) (V.last solver.new) result }
     ensures check { command_of (texts words.now) ≡ Some Command.Check →
         HeadlineCheck S.left S.faults K.held K.faults (λ rules table. check_text) ins.old ins.new outs.old outs.new result }
+    ensures report { command_of (texts words.now) ≡ Some Command.Report →
+        HeadlineCheck S.left S.faults K.held K.faults report_text ins.old ins.new outs.old outs.new result }
+    ensures sample { (rows seed : ℕ) → command_of (texts words.now) ≡ Some (Command.Sample rows seed) → result ≡ Status.Done →
+        WritesSummary K.held (λ problem. CountsChanges problem (V.most solver.new) (V.last solver.new)) rows seed outs.old outs.new }
 {
     // The laws that show `due` and the headlines; they do nothing.
     files_are_one();
@@ -83,6 +98,7 @@ fn ending_of<S: Source, K: Sink, V: Solver>(
     outs: &mut Outputs<K>,
     solver: &mut V,
 ) -> Ending
+    requires { HasLimits command }
     ensures performs { Performs S.left S.faults K.held K.faults (Answers command) ins.old ins.new outs.old outs.new result }
     ensures counts { result ≡ Ending.Ended Outcome.Done →
         Performs S.left S.faults K.held K.faults (AnswersBy (λ problem. CountsChanges problem (V.most solver.new) (V.last solver.new)) IsTrueClaim command) ins.old ins.new outs.old outs.new (Ending.Ended Outcome.Done) }
@@ -90,7 +106,9 @@ fn ending_of<S: Source, K: Sink, V: Solver>(
     ensures usage { (result ≡ Ending.Ended Outcome.Usage) ↔ (command ≡ None) }
     ensures unused { LeavesUnused (roles_of command) ins.old ins.new outs.old outs.new }
     ensures note { outs.new.note ≡ outs.old.note }
-    ensures solver_stays { command ≢ Some Command.Global → solver.new ≡ solver.old }
+    ensures check_leaves { command ≡ Some Command.Check → solver.new ≡ solver.old }
+    ensures report_leaves { command ≡ Some Command.Report → solver.new ≡ solver.old }
+    ensures none_leaves { command ≡ None → solver.new ≡ solver.old }
     ensures most_stays { V.most solver.new ≡ V.most solver.old }
 {
     match reply_of(alloc, command, ins, solver) {
@@ -109,6 +127,7 @@ fn reply_of<S: Source, V: Solver>(
     ins: &mut Inputs<S>,
     solver: &mut V,
 ) -> Result<Reply, Ending>
+    requires { HasLimits command }
     ensures answer { MatchResult result
         (Replies S.left S.faults (AnswersBy (λ problem. CountsChanges problem (V.most solver.new) (V.last solver.new)) IsTrueClaim command) ins.old ins.new)
         (Ends S.left S.faults (Answers command) ins.old ins.new) }
@@ -118,12 +137,16 @@ fn reply_of<S: Source, V: Solver>(
     ensures read_faults { command ≡ Some Command.Global → result ≡ Err Ending.ReadFault → CountsReadFault S.faults ins.old ins.new }
     ensures unread { (roles_of command).cert_read ≡ Nothing → ins.new.cert ≡ ins.old.cert }
     ensures idle { (roles_of command).rules ≡ Nothing → ins.new ≡ ins.old }
-    ensures solver_stays { command ≢ Some Command.Global → solver.new ≡ solver.old }
+    ensures check_leaves { command ≡ Some Command.Check → solver.new ≡ solver.old }
+    ensures report_leaves { command ≡ Some Command.Report → solver.new ≡ solver.old }
+    ensures none_leaves { command ≡ None → solver.new ≡ solver.old }
     ensures most_stays { V.most solver.new ≡ V.most solver.old }
 {
     match command {
         Some(Command::Global) => global(alloc, ins, solver),
         Some(Command::Check) => check(alloc, ins),
+        Some(Command::Report) => report(alloc, ins),
+        Some(Command::Sample { rows, seed }) => sample(alloc, rows, seed, solver),
         None => Err(Ending::Ended(Outcome::Usage)),
     }
 }

@@ -2,9 +2,11 @@ use Rattle.std.proofs.Common.{◌≡◌, ◌∙◌, Option, Some, MatchResult, a
 use Rattle.cert_check.specs.Laws.{IsTrueClaim}
 use Rattle.least_cost.specs.Answer.{CountsChanges}
 use Rattle.screen_tool.specs.declared.command.Command.{Command}
-use Rattle.screen_tool.specs.declared.command.Command.TheVariants.{Check, Global}
+use Rattle.screen_tool.specs.declared.command.Command.TheVariants.{Check, Global, Report, Sample}
 use Rattle.screen_tool.specs.Answers.{Answers, AnswersBy}
+use Rattle.screen_tool.specs.Sample.{HasLimits}
 use Rattle.screen_tool.specs.Step.{Ends, Replies}
+use Rattle.screen_tool.proofs.SampleSteps.{sample_comes}
 use Rattle.screen_tool.proofs.Steps.{usage_ends}
 use Rattle.screen_tool.proofs.program.reply_of.Goals as goal
 
@@ -27,6 +29,34 @@ returns-in-Some-Check-clause-answer g c =
     (Replies g.S.Source.left g.S.Source.faults (AnswersBy (λ problem. CountsChanges problem (g.V.Solver.most c.args.solver.now) (g.V.Solver.last c.args.solver.now)) IsTrueClaim command) c.args.ins.now c.check.new.ins)
     (Ends g.S.Source.left g.S.Source.faults (Answers command) c.args.ins.now c.check.new.ins))
     (sym asked) c.check.ensures.answer
+
+pub returns-in-Some-Report-clause-answer : goal.returns-in-Some-Report-clause-answer
+returns-in-Some-Report-clause-answer g c =
+    let inner : c.in-Some-Report.field-0 ≡ Report = rw c.in-Some-Report.is at c.in-Some-Report.field-0-is in
+    let asked : c.args.command ≡ Some Report = c.in-Some-Report.is ∙ ap Some inner in
+    subst
+    (λ (command : Option Command). MatchResult c.report.result
+    (Replies g.S.Source.left g.S.Source.faults (AnswersBy (λ problem. CountsChanges problem (g.V.Solver.most c.args.solver.now) (g.V.Solver.last c.args.solver.now)) IsTrueClaim command) c.args.ins.now c.report.new.ins)
+    (Ends g.S.Source.left g.S.Source.faults (Answers command) c.args.ins.now c.report.new.ins))
+    (sym asked) c.report.ensures.answer
+
+pub returns-in-Some-Sample-clause-answer : goal.returns-in-Some-Sample-clause-answer
+returns-in-Some-Sample-clause-answer g c =
+    let inner : c.in-Some-Sample.field-0 ≡ Sample c.in-Some-Sample.rows c.in-Some-Sample.seed = rw c.in-Some-Sample.is at c.in-Some-Sample.field-0-is in
+    let asked : c.args.command ≡ Some (Sample c.in-Some-Sample.rows c.in-Some-Sample.seed) = c.in-Some-Sample.is ∙ ap Some inner in
+    subst
+    (λ (command : Option Command). MatchResult c.sample.result
+    (Replies g.S.Source.left g.S.Source.faults (AnswersBy (λ problem. CountsChanges problem (g.V.Solver.most c.sample.new.solver) (g.V.Solver.last c.sample.new.solver)) IsTrueClaim command) c.args.ins.now c.args.ins.now)
+    (Ends g.S.Source.left g.S.Source.faults (Answers command) c.args.ins.now c.args.ins.now))
+    (sym asked)
+    (sample_comes g.S.Source.left g.S.Source.faults (λ problem. CountsChanges problem (g.V.Solver.most c.sample.new.solver) (g.V.Solver.last c.sample.new.solver)) IsTrueClaim c.in-Some-Sample.rows c.in-Some-Sample.seed c.args.ins.now c.sample.result c.sample.ensures.answer)
+
+pub sample-requires : goal.sample-requires
+sample-requires g c =
+    let inner : c.in-Some-Sample.field-0 ≡ Sample c.in-Some-Sample.rows c.in-Some-Sample.seed = rw c.in-Some-Sample.is at c.in-Some-Sample.field-0-is in
+    let asked : c.args.command ≡ Some (Sample c.in-Some-Sample.rows c.in-Some-Sample.seed) = c.in-Some-Sample.is ∙ ap Some inner in
+    let limits : HasLimits (Some (Sample c.in-Some-Sample.rows c.in-Some-Sample.seed)) = subst HasLimits asked c.requires in
+    record { rows_least = limits.0; rows_most = limits.1; seed = limits.2 }
 
 pub returns-in-None-clause-answer : goal.returns-in-None-clause-answer
 returns-in-None-clause-answer g c = usage_ends g.S.Source.left g.S.Source.faults c.args.command c.args.ins.now c.in-None.is

@@ -1,19 +1,22 @@
-use Rattle.std.proofs.Common.{◌≡◌, ◌∙◌, Option, Some, subst}
+use Rattle.std.proofs.Common.{◌≡◌, ◌∙◌, Option, Some, subst, sym}
 use Rattle.cert_check.specs.Laws.{IsTrueClaim}
 use Rattle.least_cost.specs.Answer.{CountsChanges}
+use Rattle.repair_report.specs.Report.{report_text}
 use Rattle.screen_tool.specs.declared.command.Command.{Command}
-use Rattle.screen_tool.specs.declared.command.Command.TheVariants.{Check, Global}
+use Rattle.screen_tool.specs.declared.command.Command.TheVariants.{Check, Global, Report, Sample}
 use Rattle.screen_tool.specs.declared.status.Ending.TheVariants as ending
 use Rattle.screen_tool.specs.declared.status.Outcome.TheVariants as outcome
 use Rattle.screen_tool.specs.Answers.{Answers, AnswersBy}
 use Rattle.screen_tool.specs.Check.{check_text}
-use Rattle.screen_tool.specs.Command.{roles_of}
+use Rattle.screen_tool.specs.Command.{roles_of, texts}
 use Rattle.screen_tool.specs.Ending.{status_of}
 use Rattle.screen_tool.specs.Note.{note_text}
 use Rattle.screen_tool.specs.Performance.{IsDue, Performs}
-use Rattle.screen_tool.proofs.Decided.{headline}
+use Rattle.screen_tool.specs.Sample.{HasLimits}
+use Rattle.screen_tool.proofs.Decided.{headline, is_done}
 use Rattle.screen_tool.proofs.DecidedCheck.{headline_check}
 use Rattle.screen_tool.proofs.Due.{due}
+use Rattle.screen_tool.proofs.SampleSteps.{words_limits, writes_summary}
 use Rattle.screen_tool.proofs.Steps.{noted, performs_noted}
 use Rattle.screen_tool.proofs.program.run.Goals as goal
 
@@ -66,3 +69,31 @@ returns-clause-check g c = λ is.
     (λ done. subst
     (λ (command : Option Command). Performs g.S.Source.left g.S.Source.faults g.K.Sink.held g.K.Sink.faults (AnswersBy (λ problem. CountsChanges problem (g.V.Solver.most c.ending_of-ending.new.solver) (g.V.Solver.last c.ending_of-ending.new.solver)) IsTrueClaim command) c.args.ins.now c.ending_of-ending.new.ins c.args.outs.now outs_now (ending.Ended outcome.Done))
     asked (c.ending_of-ending.ensures.counts done)))
+
+pub returns-clause-report : goal.returns-clause-report
+returns-clause-report g c = λ is.
+    let how = c.ending_of-ending.result in
+    let asked : c.command_from.result ≡ Some Report = c.command_from.ensures ∙ is in
+    let outs_now = record c.ending_of-ending.new.outs { note = c.write_all_of.new.sink } in
+    let performed = performs_noted g.S.Source.left g.S.Source.faults g.K.Sink.held g.K.Sink.faults (Answers c.command_from.result) c.args.ins.now c.ending_of-ending.new.ins c.args.outs.now c.ending_of-ending.new.outs c.write_all_of.new.sink how c.ending_of-ending.ensures.performs in
+    let given = subst (λ (command : Option Command). Performs g.S.Source.left g.S.Source.faults g.K.Sink.held g.K.Sink.faults (Answers command) c.args.ins.now c.ending_of-ending.new.ins c.args.outs.now outs_now how) asked performed in
+    rw c.status.ensures
+    (headline_check g.S.Source.left g.S.Source.faults g.K.Sink.held g.K.Sink.faults report_text c.files_are_one.ensures.rules c.files_are_one.ensures.readings c.files_are_one.ensures.certs
+    c.args.ins.now c.ending_of-ending.new.ins c.args.outs.now outs_now how given
+    (λ done. subst
+    (λ (command : Option Command). Performs g.S.Source.left g.S.Source.faults g.K.Sink.held g.K.Sink.faults (AnswersBy (λ problem. CountsChanges problem (g.V.Solver.most c.ending_of-ending.new.solver) (g.V.Solver.last c.ending_of-ending.new.solver)) IsTrueClaim command) c.args.ins.now c.ending_of-ending.new.ins c.args.outs.now outs_now (ending.Ended outcome.Done))
+    asked (c.ending_of-ending.ensures.counts done)))
+
+pub returns-clause-sample : goal.returns-clause-sample
+returns-clause-sample g c = λ rows seed is done.
+    let asked : c.command_from.result ≡ Some (Sample rows seed) = c.command_from.ensures ∙ is in
+    let ended = is_done c.ending_of-ending.result (sym c.status.ensures ∙ done) in
+    writes_summary g.S.Source.left g.S.Source.faults g.K.Sink.held g.K.Sink.faults
+    (λ problem. CountsChanges problem (g.V.Solver.most c.ending_of-ending.new.solver) (g.V.Solver.last c.ending_of-ending.new.solver)) rows seed c.args.ins.now c.ending_of-ending.new.ins c.args.outs.now
+    (record c.ending_of-ending.new.outs { note = c.write_all_of.new.sink })
+    (subst
+    (λ (command : Option Command). Performs g.S.Source.left g.S.Source.faults g.K.Sink.held g.K.Sink.faults (AnswersBy (λ problem. CountsChanges problem (g.V.Solver.most c.ending_of-ending.new.solver) (g.V.Solver.last c.ending_of-ending.new.solver)) IsTrueClaim command) c.args.ins.now c.ending_of-ending.new.ins c.args.outs.now (record c.ending_of-ending.new.outs { note = c.write_all_of.new.sink }) (ending.Ended outcome.Done))
+    asked (c.ending_of-ending.ensures.counts ended))
+
+pub ending_of-ending-requires : goal.ending_of-ending-requires
+ending_of-ending-requires g c = subst HasLimits (sym c.command_from.ensures) (words_limits (texts c.args.words.now))
