@@ -19,13 +19,8 @@ const CERT: &str = "screen-cert 1\nclaim repair\ntotal 8\nset 3 2 12\nflow 1 2 3
 const REPORTED: &str =
     "claim repair\ntotal 8\ncolumn  readings   changed                    change\n     2         4         1                         8\nchange 3 2 20 12\nflow 1 2 3 2 up 1\n";
 
-/// The words of `check`, and of `report`.
-const CHECK: [&str; 4] = ["check", "r", "d", "c"];
-
-const REPORT: [&str; 4] = ["report", "r", "d", "c"];
-
 /// The commands that check a certificate, and what each writes of this one.
-const COMMANDS: [([&str; 4], &str); 2] = [(CHECK, "accepted repair 8\n"), (REPORT, REPORTED)];
+const COMMANDS: [(&str, &str); 2] = [("check", "accepted repair 8\n"), ("report", REPORTED)];
 
 /// A run of such a command: how it ended, what it wrote, and whether there is more of its certificate to read.
 #[derive(Drop)]
@@ -48,7 +43,7 @@ impl Ran {
 
 fn run_over(
     alloc: Global,
-    command: &[&str],
+    command: &str,
     mut ins: Inputs<MemSource>,
     out: MemSink,
     note: MemSink,
@@ -58,7 +53,7 @@ fn run_over(
         cert: sink(alloc, &[])?,
         note,
     };
-    let words = words(alloc, command)?;
+    let words = words(alloc, &[command, "r", "d", "c"])?;
     let mut solver = PathSolver::new(alloc);
     let status = run(alloc, words.as_slice(), &mut ins, &mut outs, &mut solver);
     let unread = ins.cert.read(&mut [0; 4]) != Ok(0);
@@ -87,7 +82,7 @@ fn inputs(
 
 fn check(alloc: Global, rules: &str, readings: &[u8], cert: &[u8]) -> Result<Ran, AllocError> {
     let ins = inputs(alloc, rules, readings, cert, (0, 0, 0))?;
-    run_over(alloc, &CHECK, ins, sink(alloc, &[])?, sink(alloc, &[])?)
+    run_over(alloc, "check", ins, sink(alloc, &[])?, sink(alloc, &[])?)
 }
 
 /// Rules and readings, and what is answered to the certificate that `global` writes of them.
@@ -217,7 +212,7 @@ fn a_read_that_fails_writes_nothing(rt: HostRuntime) -> Result<(), Fail> {
         for call in 0..8u64 {
             for fails in [(call, 0, 0), (0, call, 0), (0, 0, call)] {
                 let ins = inputs(alloc, BASE, READINGS.as_bytes(), CERT.as_bytes(), fails)?;
-                let ran = run_over(alloc, &command, ins, sink(alloc, &[])?, sink(alloc, &[])?)?;
+                let ran = run_over(alloc, command, ins, sink(alloc, &[])?, sink(alloc, &[])?)?;
                 if is_read(BASE, fails.0) || is_read(READINGS, fails.1) || is_read(CERT, fails.2) {
                     ran.assert_is(&rt, Status::ReadFault, b"", b"screen: a read failed\n");
                 } else {
@@ -237,7 +232,7 @@ fn an_output_that_fails_holds_a_front(rt: HostRuntime) -> Result<(), Fail> {
             let ins = inputs(alloc, BASE, READINGS.as_bytes(), CERT.as_bytes(), (0, 0, 0))?;
             let ran = run_over(
                 alloc,
-                &command,
+                command,
                 ins,
                 sink(alloc, &[call])?,
                 sink(alloc, &[])?,
@@ -262,7 +257,7 @@ fn a_note_that_fails_changes_no_status(rt: HostRuntime) -> Result<(), Fail> {
             let ins = inputs(alloc, BASE, READINGS.as_bytes(), b"", (0, 0, 0))?;
             let ran = run_over(
                 alloc,
-                &command,
+                command,
                 ins,
                 sink(alloc, &[])?,
                 sink(alloc, &[call])?,
@@ -275,7 +270,7 @@ fn a_note_that_fails_changes_no_status(rt: HostRuntime) -> Result<(), Fail> {
 
 #[test]
 fn ends_of_a_check_are_its_own(rt: HostRuntime) -> Result<(), Fail> {
-    let check = words(rt.alloc(), &CHECK)?;
+    let check = words(rt.alloc(), &["check", "r", "d", "c"])?;
     let ends = roles(check.as_slice());
     assert_eq!(rt; ends.rules, EndUse::Word(1));
     assert_eq!(rt; ends.readings, EndUse::Word(2));
