@@ -16,6 +16,3 @@ pub use laws::{
     relative_to_first_respects, respects_those_among, values_at_ends,
 };
 pub use table::arcs_of_bounds;
-
-#[cfg(test)]
-mod tests;

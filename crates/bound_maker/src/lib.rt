@@ -15,8 +15,6 @@ mod pairs;
 mod reading;
 mod rule;
 mod sound;
-#[cfg(test)]
-mod tests;
 mod values;
 mod weight;
 mod window;

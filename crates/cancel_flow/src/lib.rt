@@ -7,7 +7,5 @@
 mod cancel;
 mod potentials;
 mod solver;
-#[cfg(test)]
-mod tests;
 
 pub use solver::CancelSolver;

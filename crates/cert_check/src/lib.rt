@@ -13,8 +13,6 @@ mod marks;
 mod repair;
 mod sets;
 mod sums;
-#[cfg(test)]
-mod tests;
 mod verdict;
 
 pub use accepted::Accepted;

@@ -14,8 +14,6 @@ mod number;
 mod order;
 mod parse;
 mod read;
-#[cfg(test)]
-mod tests;
 mod write;
 
 pub use cert::{Cert, SetLine, SetList};

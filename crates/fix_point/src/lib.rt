@@ -7,8 +7,6 @@ mod rate;
 mod scale;
 mod size;
 mod steps;
-#[cfg(test)]
-mod tests;
 mod text;
 
 pub use number::{MOST_BYTES, MOST_DIGITS, MOST_EXPONENT_DIGITS};

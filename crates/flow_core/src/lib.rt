@@ -10,8 +10,6 @@ mod limits;
 mod network;
 mod numbers;
 mod solver;
-#[cfg(test)]
-mod tests;
 mod views;
 
 pub use laws::{

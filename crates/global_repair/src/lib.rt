@@ -7,8 +7,6 @@
 mod fault;
 mod lists;
 mod table;
-#[cfg(test)]
-mod tests;
 
 pub use fault::RepairFault;
 pub use least_cost::Outcome;

@@ -11,8 +11,6 @@ mod labels;
 mod laws;
 mod room;
 mod sweep;
-#[cfg(test)]
-mod tests;
 mod transposed;
 
 pub use laws::{greatest_is_one, least_by_transposing, least_is_one, transposed_is_negated};

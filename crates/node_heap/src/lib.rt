@@ -8,6 +8,3 @@ mod heap;
 mod tree;
 
 pub use heap::NodeHeap;
-
-#[cfg(test)]
-mod tests;

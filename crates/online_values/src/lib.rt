@@ -4,8 +4,6 @@
 
 mod laws;
 mod sensor;
-#[cfg(test)]
-mod tests;
 
 pub use laws::{median_is_middle, results_cost_least, results_keep_the_rates};
 pub use sensor::SensorRepair;

@@ -10,8 +10,6 @@ mod line;
 mod order;
 mod orders;
 mod selection;
-#[cfg(test)]
-mod tests;
 mod window;
 
 pub use key::Key;

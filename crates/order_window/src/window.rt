@@ -50,7 +50,7 @@ impl OrderWindow {
         })
     }
 
-    /// Adds a key. It takes no memory; its places are found in logarithmic time, and the keys behind them are moved.
+    /// Adds a key. It takes no memory; its places are found in logarithmic time, and the keys after them are moved.
     pub fn insert(&mut self, key: Key)
         requires room { length self.old.keys < self.old.room }
         requires size { IsUnits key.value }
@@ -62,7 +62,7 @@ impl OrderWindow {
     }
 
     /// Takes out the key that has this time, and gives it; there is none where no key has this time. It takes no memory;
-    /// the places of the key are found in logarithmic time, and the keys behind them are moved.
+    /// the places of the key are found in logarithmic time, and the keys after them are moved.
     pub fn remove(&mut self, ticks: i64) -> Option<Key>
         ensures time { IfSome result (λ key. key.ticks ≡ ticks) }
         ensures taken { IfSome result (λ key. IsAdded key self.new.keys self.old.keys) }
@@ -81,26 +81,23 @@ impl OrderWindow {
     {
         median_of(&self.orders, own)
     }
-}
 
-#[cfg(test)]
-impl OrderWindow {
     /// The keys in order of time.
-    pub(crate) fn keys(&self) -> &[Key]
+    pub fn keys(&self) -> &[Key]
         ensures { result.now ≡ self.now.keys }
     {
         self.orders.by_time.as_slice()
     }
 
     /// For how many keys there is room.
-    pub(crate) fn room(&self) -> u32
+    pub fn room(&self) -> u32
         ensures { result ≡ self.now.room }
     {
         self.orders.room
     }
 
     /// The window of the rule, in ticks.
-    pub(crate) fn span(&self) -> i64
+    pub fn span(&self) -> i64
         ensures { result ≡ self.now.span }
     {
         self.orders.span

@@ -5,8 +5,6 @@ mod bounds;
 mod laws;
 mod rise;
 mod stamp;
-#[cfg(test)]
-mod tests;
 
 pub use bounds::{between_bound, drift_bound, swing_bound};
 pub use laws::rises_are_limited;

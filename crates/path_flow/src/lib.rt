@@ -12,8 +12,6 @@ mod saturate;
 mod search;
 mod solver;
 mod starts;
-#[cfg(test)]
-mod tests;
 mod units;
 
 pub use solver::PathSolver;

@@ -15,8 +15,6 @@ mod place;
 mod row;
 mod split;
 mod taken;
-#[cfg(test)]
-mod tests;
 
 pub use cutter::{Cutter, LONGEST};
 pub use fault::CutFault;

@@ -12,7 +12,5 @@ mod reading;
 mod readings;
 mod report;
 mod tally;
-#[cfg(test)]
-mod tests;
 
 pub use report::report_text;

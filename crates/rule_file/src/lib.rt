@@ -9,15 +9,11 @@ mod each;
 mod fault;
 mod format;
 mod name;
-#[cfg(test)]
-mod number_tests;
 mod numbers;
 mod rate;
 mod read;
 mod rules;
 mod tables;
-#[cfg(test)]
-mod tests;
 mod typed;
 
 pub use answered::an_answer;

@@ -30,7 +30,7 @@ pub fn read_rules(alloc: Global, bytes: &[u8]) -> Result<Rules, RuleFault>
     ensures only { (answer : Result Rules RuleFault) → ReadsFile bytes.now answer →
         UnlessMemory (of_the_file RuleCause.Memory) (λ given. given ≡ answer) result }
 {
-    // The law behind `only`; it does nothing.
+    // The law of the clause `only`; it does nothing.
     one_answer();
     file_rules(alloc, bytes)
 }

@@ -8,8 +8,6 @@ mod key;
 mod keys;
 mod limits;
 mod read;
-#[cfg(test)]
-mod tests;
 mod texts;
 mod value;
 

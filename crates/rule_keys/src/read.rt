@@ -58,7 +58,7 @@ pub fn read_table<'a>(
     ensures only { (answer : Result (List (KeyName × Meaning)) KeyCause) → Reads scale kind (table_view table.now) answer → result ≡ answer }
     ensures fit { IfOk result (Fit (keys_of kind)) }
 {
-    // The law behind `only`; it does nothing.
+    // The law of the clause `only`; it does nothing.
     one_answer();
     table_entries(alloc, scale, kind, table)
 }

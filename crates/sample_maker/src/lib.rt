@@ -3,8 +3,6 @@
 
 mod make;
 mod parts;
-#[cfg(test)]
-mod tests;
 mod walk;
 
 pub use make::{MOST_ROWS, MOST_SEED, sample};

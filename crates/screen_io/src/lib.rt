@@ -14,8 +14,6 @@ mod real_sink;
 mod real_source;
 mod sink;
 mod source;
-#[cfg(test)]
-mod tests;
 mod write;
 
 pub use honest_source::HonestSource;

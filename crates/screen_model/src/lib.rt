@@ -10,8 +10,6 @@ mod bound;
 mod laws;
 mod limits;
 mod place;
-#[cfg(test)]
-mod tests;
 
 pub use bound::{Bound, BoundName, FlowItem, Side};
 pub use laws::{

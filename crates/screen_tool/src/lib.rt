@@ -7,8 +7,6 @@
 mod cert;
 mod cert_note;
 mod check;
-#[cfg(test)]
-mod check_tests;
 mod checked;
 mod command;
 mod ends;
@@ -22,12 +20,8 @@ mod program;
 mod reply;
 mod report;
 mod sample;
-#[cfg(test)]
-mod sample_tests;
 mod status;
 mod step;
-#[cfg(test)]
-mod tests;
 
 pub use command::{Command, roles};
 pub use ends::{EndUse, Inputs, Outputs, Roles};

@@ -8,8 +8,6 @@ mod progress;
 mod reader;
 mod rows;
 mod table;
-#[cfg(test)]
-mod tests;
 mod whole;
 mod write;
 

@@ -76,7 +76,7 @@ impl<'a> RowReader<'a> {
         if let Stage::Refused(fault) = self.stage {
             return Err(fault);
         }
-        // The law behind the clauses; it does nothing.
+        // The law of the clauses; it does nothing.
         one_answer();
         let cut = self.cutter.feed(byte);
         let answer = self.progress.take(self.alloc, self.rules, self.limits, cut);
@@ -107,7 +107,7 @@ impl<'a> RowReader<'a> {
                 answer: Err(fault),
             };
         }
-        // The law behind the clauses; it does nothing.
+        // The law of the clauses; it does nothing.
         one_answer();
         let taken = self.cutter.feed_slice(bytes);
         let count = taken.count;
@@ -137,7 +137,7 @@ impl<'a> RowReader<'a> {
         if let Stage::Refused(fault) = self.stage {
             return Err(fault);
         }
-        // The law behind the clauses; it does nothing.
+        // The law of the clauses; it does nothing.
         one_answer();
         let cut = self.cutter.finish();
         let answer = self

@@ -27,7 +27,7 @@ pub fn read_table(alloc: Global, rules: &Rules, bytes: &[u8]) -> Result<Table, T
         UnlessMemory of_memory (λ given. given ≡ answer) result }
     ensures too_long { LONGEST < length bytes.now → result ≡ Err (of_the_file TableCause.FileTooLong) }
 {
-    // The law behind `only`; it does nothing.
+    // The law of the clause `only`; it does nothing.
     one_answer();
     if bytes.len() > LONGEST {
         return Err(TableFault::of_the_file(TableCause::FileTooLong));

@@ -15,8 +15,6 @@ mod later_record;
 mod laws;
 mod limits;
 mod row;
-#[cfg(test)]
-mod tests;
 mod text;
 
 pub use before::RowsBefore;

@@ -11,6 +11,3 @@ mod trim;
 pub use form::{MOST_TICKS, TimeFault, TimeForm};
 pub use read::{an_answer, one_answer, ticks};
 pub use trim::trimmed_text;
-
-#[cfg(test)]
-mod tests;

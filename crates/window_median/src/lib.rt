@@ -4,8 +4,6 @@
 mod cost;
 mod laws;
 mod median;
-#[cfg(test)]
-mod tests;
 
 pub use cost::{Near, local_cost};
 pub use laws::{
