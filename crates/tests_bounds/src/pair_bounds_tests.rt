@@ -1,6 +1,6 @@
 //! Bounds of pairs, at the ends of what a rule speaks of.
-use pair_bounds::{Stamp, between_bound, drift_bound, swing_bound};
 use fix_point::Rate;
+use pair_bounds::{Stamp, between_bound, drift_bound, swing_bound};
 use rule_file::{BetweenRule, DriftRule, Name, SwingRule};
 use screen_model::{Bound, BoundName, End, Place, Side};
 use std::test::Fail;

@@ -3,8 +3,8 @@ ghost use Rattle.std.specs.Prelude.{◌≡◌, ◌≤◌, length};
 ghost use Rattle.bound_maker.specs.Bounds.{made_bounds};
 ghost use Rattle.bound_maker.specs.declared.maker.TheConstants.{MOST_BOUNDS};
 
-use cert_check::{Accepted, CertFault, check};
 use bound_maker::make;
+use cert_check::{Accepted, CertFault, check};
 use rule_file::{Rules, read_rules};
 use screen_model::{BoundName, Place, Side};
 use series_csv::{Table, read_table};

@@ -4,9 +4,9 @@ ghost use Rattle.bound_maker.specs.Bounds.{made_bounds};
 ghost use Rattle.bound_maker.specs.declared.maker.TheConstants.{MOST_BOUNDS};
 ghost use Rattle.cert_check.specs.Laws.{IsTrueClaim};
 
-use repair_report::report_text;
 use bound_maker::make;
 use cert_check::{Accepted, CertFault, accepted_is_true, check};
+use repair_report::report_text;
 use rule_file::{Rules, read_rules};
 use screen_model::BoundList;
 use series_csv::{Table, read_table};

@@ -1,8 +1,8 @@
 //! Whole runs of the program over sources and sinks in memory.
 use super::{Command, EndUse, Inputs, Outputs, Status, roles, run};
-use screen_tool::command::command_from;
 use path_flow::PathSolver;
 use screen_io::{MemSink, MemSource, Source};
+use screen_tool::command::command_from;
 use std::alloc::{AllocError, Global};
 use std::process::Abort;
 use std::test::Fail;

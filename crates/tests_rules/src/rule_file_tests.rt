@@ -1,11 +1,11 @@
 //! Rule files and what is read from them.
 
+use fix_point::Extra;
 use rule_file::RuleCause::{
     BadNumber, FileTooLong, MissingKey, Order, OutOfLimit, ReachTooLarge, SameSensor, Syntax,
     TooMany, UnknownKey, WrongKind,
 };
 use rule_file::{RuleCause, RuleFault, Rules, read_rules};
-use fix_point::Extra;
 use std::alloc::{AllocError, Global};
 use std::test::Fail;
 use time_text::TimeForm;

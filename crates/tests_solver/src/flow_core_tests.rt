@@ -1,11 +1,11 @@
 //! Networks of no reading, of one and of four: their arcs, pushes on them, and what then is there in each view.
 ghost use Rattle.std.specs.Prelude.{◌≡◌, ◌≤◌};
 
+use bound_graph::{Arc, ArcList};
 use flow_core::{
     Network, balanced_everywhere, balanced_is_admissible, flow_is_tight, negative_cycle_is_blocked,
     pull_is_balance, solved_is_best,
 };
-use bound_graph::{Arc, ArcList};
 use screen_model::{Bound, BoundList, BoundName, End, Place, Places, Series, Side};
 use std::alloc::{AllocError, Global};
 use std::process::Abort;

@@ -5,12 +5,12 @@ ghost use Rattle.bound_graph.specs.Arcs.{IsArc};
 
 mod large;
 
+use bound_graph::{Arc, ArcList, ArcTable, Graph};
 use neg_cycle::forest::{Parent, rank_or_cycle};
 use neg_cycle::{
     Room, Settled, Transposed, greatest_is_one, least_by_transposing, least_is_one, settle,
     transposed_is_negated,
 };
-use bound_graph::{Arc, ArcList, ArcTable, Graph};
 use screen_model::{Bound, BoundList, BoundName, End, Place, Places, Side};
 use std::alloc::{AllocError, Global};
 use std::test::Fail;

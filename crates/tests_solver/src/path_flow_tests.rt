@@ -3,10 +3,10 @@ ghost use Rattle.std.specs.Prelude.{◌≡◌, ◌≤◌, ◌<◌, ◌^◌, ◌=
 ghost use Rattle.screen_model.specs.declared.place.End.TheVariants.{At, Zero};
 ghost use Rattle.flow_core.specs.State.{IsNew};
 
-use path_flow::PathSolver;
 use bound_graph::{Arc, ArcList};
 use flow_core::{Network, Solved, Solver};
 use neg_cycle::Room;
+use path_flow::PathSolver;
 use screen_model::{Bound, BoundList, BoundName, End, Place, Places, Series, Side};
 use sequence::Sequence;
 use std::alloc::{AllocError, Global};

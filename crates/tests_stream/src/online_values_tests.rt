@@ -2,8 +2,8 @@ ghost use Rattle.std.specs.Prelude.{◌≡◌, ◌≤◌, [], IfOk, IfSome, IsTr
 ghost use Rattle.fix_point.specs.Rates.{IsInReach, IsRate};
 ghost use Rattle.rule_file.specs.Limits.{IsSpan};
 
-use online_values::SensorRepair;
 use fix_point::{MOST_MILLIONTHS, MOST_PER, MOST_REACH, Rate};
+use online_values::SensorRepair;
 use order_window::Key;
 use rule_file::{Name, SpeedRule};
 use std::alloc::{AllocError, Global};

@@ -3,8 +3,8 @@ ghost use Rattle.fix_point.specs.Rates.{IsInReach, IsRate};
 ghost use Rattle.rule_file.specs.Limits.{IsSpan};
 ghost use Rattle.order_window.specs.Window.{AreApart, IsAfter};
 
-use order_window::{Key, OrderWindow};
 use fix_point::{MOST_MILLIONTHS, MOST_PER, MOST_REACH, Rate};
+use order_window::{Key, OrderWindow};
 use rule_file::{Name, SpeedRule};
 use std::alloc::{AllocError, Global};
 use std::process::Abort;

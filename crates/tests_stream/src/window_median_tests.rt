@@ -1,8 +1,8 @@
 ghost use Rattle.std.specs.Prelude.{◌↔◌, IsTrue, All};
 ghost use Rattle.window_median.specs.LocalCost.{HasSteps};
 
-use window_median::{Near, local_cost, median_plain};
 use std::test::Fail;
+use window_median::{Near, local_cost, median_plain};
 
 /// A successor.
 fn near(value: i64, least: i64, most: i64) -> Near {

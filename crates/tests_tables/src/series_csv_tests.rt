@@ -1,6 +1,11 @@
 //! Files that are read, whole and in pieces, the first reason to refuse one, and texts.
 ghost use Rattle.series_csv.specs.StandsFor.{HasEnded};
 
+use fix_point::NumFault;
+use record_cut::{CutFault, Fields};
+use rule_file::{Rules, read_rules};
+use screen_model::{Place, Series};
+use sequence::Sequence;
 use series_csv::TableCause::{
     Cut, NameTwice, NoHeader, NoSuchSensor, Time, TimeNotRising, TooManyColumns, TooManyReadings,
     TooManyRows, Value, Width,
@@ -8,11 +13,6 @@ use series_csv::TableCause::{
 use series_csv::{
     Event, Header, Limits, Row, RowReader, Table, TableCause, TableFault, read_table, table_text,
 };
-use fix_point::NumFault;
-use record_cut::{CutFault, Fields};
-use rule_file::{Rules, read_rules};
-use screen_model::{Place, Series};
-use sequence::Sequence;
 use std::alloc::Global;
 use std::process::Abort;
 use std::test::Fail;

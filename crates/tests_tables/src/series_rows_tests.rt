@@ -2,14 +2,14 @@
 ghost use Rattle.std.specs.Prelude.{◌≤◌, IsTrue, unsigned_abs};
 ghost use Rattle.words.specs.Separators.{is_separator};
 
-use series_rows::{
-    Cell, Header, Limits, Row, RowsBefore, TableCause, TableFault, header_text, read_header,
-    read_row, row_with,
-};
 use fix_point::{MOST_UNITS, NumFault};
 use record_cut::{Cutter, Fields};
 use rule_file::{Rules, read_rules};
 use screen_model::Series;
+use series_rows::{
+    Cell, Header, Limits, Row, RowsBefore, TableCause, TableFault, header_text, read_header,
+    read_row, row_with,
+};
 use std::alloc::Global;
 use std::process::Abort;
 use std::test::Fail;
