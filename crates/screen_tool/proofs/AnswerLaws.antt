@@ -19,9 +19,9 @@ use Rattle.series_csv.specs.File.{TableView, ReadsTable}
 use Rattle.series_csv.specs.Text.{table_text}
 use Rattle.series_csv.specs.declared.table.TheConstants.{LONGEST as longest_readings}
 use Rattle.series_rows.specs.declared.fault.TableFault.{TableFault}
-use Rattle.screen_tool.specs.declared.command.Command.{Command}
-use Rattle.screen_tool.specs.declared.command.Command.TheVariants.{Check, Global, Report, Sample}
-use Rattle.screen_tool.specs.declared.ends.Inputs.{Inputs}
+use Rattle.screen_words.specs.declared.command.Command.{Command}
+use Rattle.screen_words.specs.declared.command.Command.TheVariants.{Check, Global, Report, Sample}
+use Rattle.screen_words.specs.declared.ends.Inputs.{Inputs}
 use Rattle.screen_tool.specs.Answer.{Extent, Whole, Unread, Answer, AreFront, AreFronts}
 use Rattle.screen_tool.specs.Answers.{Answers, AnswersBy, OneOutcome, OneText, RestsOnRead}
 use Rattle.screen_tool.specs.Check.{AnswersCheck, AnswersCheckBy, check_text}

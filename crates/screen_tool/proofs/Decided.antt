@@ -25,18 +25,18 @@ use Rattle.screen_model.specs.declared.bound.FlowItem.{FlowItem}
 use Rattle.flow_core.specs.Layout.{network_of}
 use Rattle.flow_core.specs.Solving.{by_size}
 use Rattle.series_csv.specs.declared.table.TheConstants.{LONGEST as longest_readings}
-use Rattle.screen_tool.specs.declared.command.Command.TheVariants.{Global}
-use Rattle.screen_tool.specs.declared.ends.Inputs.{Inputs}
-use Rattle.screen_tool.specs.declared.ends.Outputs.{Outputs}
-use Rattle.screen_tool.specs.declared.status.Ending.{Ending}
-use Rattle.screen_tool.specs.declared.status.Ending.TheVariants as ending
-use Rattle.screen_tool.specs.declared.status.Outcome.TheVariants as outcome
-use Rattle.screen_tool.specs.declared.status.Status.{Status}
-use Rattle.screen_tool.specs.declared.status.Status.TheVariants as status
+use Rattle.screen_words.specs.declared.command.Command.TheVariants.{Global}
+use Rattle.screen_words.specs.declared.ends.Inputs.{Inputs}
+use Rattle.screen_words.specs.declared.ends.Outputs.{Outputs}
+use Rattle.screen_words.specs.declared.status.Ending.{Ending}
+use Rattle.screen_words.specs.declared.status.Ending.TheVariants as ending
+use Rattle.screen_words.specs.declared.status.Outcome.TheVariants as outcome
+use Rattle.screen_words.specs.declared.status.Status.{Status}
+use Rattle.screen_words.specs.declared.status.Status.TheVariants as status
 use Rattle.screen_tool.specs.Answer.{Answer}
 use Rattle.screen_tool.specs.Certificates.{cert_of, repair_cert}
-use Rattle.screen_tool.specs.Command.{roles_of}
-use Rattle.screen_tool.specs.Ending.{outcome_status, status_of}
+use Rattle.screen_words.specs.Command.{roles_of}
+use Rattle.screen_words.specs.Ending.{outcome_status, status_of}
 use Rattle.screen_tool.specs.Files.{RulesAreOne, ReadingsAreOne}
 use Rattle.screen_tool.specs.Global.{AnswersGlobal, AnswersGlobalBy, AnswersTableBy, AnswersBoundsBy, IsFoundFor, answer_of}
 use Rattle.screen_tool.specs.Headline.{CountsReadFault, CountsWriteFault, Headline, IsApartFromFaults, ShowsCycle, ShowsRepair, SomeObeys, WritesCycle, WritesRepair}

@@ -11,17 +11,17 @@ use Rattle.rule_file.specs.declared.rules.Rules.{Rules}
 use Rattle.screen_io.specs.Faults.{Rose}
 use Rattle.series_csv.specs.File.{TableView, ReadsTable}
 use Rattle.series_csv.specs.declared.table.TheConstants.{LONGEST as longest_readings}
-use Rattle.screen_tool.specs.declared.command.Command.TheVariants.{Check}
-use Rattle.screen_tool.specs.declared.ends.Inputs.{Inputs}
-use Rattle.screen_tool.specs.declared.ends.Outputs.{Outputs}
-use Rattle.screen_tool.specs.declared.status.Ending.{Ending}
-use Rattle.screen_tool.specs.declared.status.Ending.TheVariants as ending
-use Rattle.screen_tool.specs.declared.status.Outcome.TheVariants as outcome
-use Rattle.screen_tool.specs.declared.status.Status.{Status}
-use Rattle.screen_tool.specs.declared.status.Status.TheVariants as status
+use Rattle.screen_words.specs.declared.command.Command.TheVariants.{Check}
+use Rattle.screen_words.specs.declared.ends.Inputs.{Inputs}
+use Rattle.screen_words.specs.declared.ends.Outputs.{Outputs}
+use Rattle.screen_words.specs.declared.status.Ending.{Ending}
+use Rattle.screen_words.specs.declared.status.Ending.TheVariants as ending
+use Rattle.screen_words.specs.declared.status.Outcome.TheVariants as outcome
+use Rattle.screen_words.specs.declared.status.Status.{Status}
+use Rattle.screen_words.specs.declared.status.Status.TheVariants as status
 use Rattle.screen_tool.specs.Answer.{Answer}
 use Rattle.screen_tool.specs.Checked.{AfterCert, AnswersChecked, CertsAreOne, accepted_answer, cert_refused, cert_too_long}
-use Rattle.screen_tool.specs.Ending.{IsUnless, outcome_status, status_of}
+use Rattle.screen_words.specs.Ending.{IsUnless, outcome_status, status_of}
 use Rattle.screen_tool.specs.Files.{RulesAreOne, ReadingsAreOne, HasFewBounds}
 use Rattle.screen_tool.specs.HeadlineCheck.{CountsFault, DecidesCheck, HeadlineCheck, WritesAccepted}
 use Rattle.screen_tool.specs.Performance.{AreCut, AreWritten, IsAnswered, IsCut, IsWritten, Performs, Stops}

@@ -2,18 +2,18 @@
 use Rattle.std.proofs.Common.{◌≡◌, ◌≢◌, inl, inr, ℕ, List, Option, Some, None, refl, sym, ap, subst, ◌∙◌}
 use Rattle.repair_report.specs.Report.{report_text}
 use Rattle.screen_io.proofs.WholeReads.{taken_front, taken_whole}
-use Rattle.screen_tool.specs.declared.command.Command.{Command}
-use Rattle.screen_tool.specs.declared.command.Command.TheVariants.{Check, Global, Report, Sample}
-use Rattle.screen_tool.specs.declared.ends.EndUse.{EndUse}
-use Rattle.screen_tool.specs.declared.ends.EndUse.TheVariants.{Word, Input, Output, Nothing}
-use Rattle.screen_tool.specs.declared.ends.Inputs.{Inputs}
-use Rattle.screen_tool.specs.declared.ends.Outputs.{Outputs}
-use Rattle.screen_tool.specs.declared.status.Ending.{Ending}
-use Rattle.screen_tool.specs.declared.status.Ending.TheVariants as ending
+use Rattle.screen_words.specs.declared.command.Command.{Command}
+use Rattle.screen_words.specs.declared.command.Command.TheVariants.{Check, Global, Report, Sample}
+use Rattle.screen_words.specs.declared.ends.EndUse.{EndUse}
+use Rattle.screen_words.specs.declared.ends.EndUse.TheVariants.{Word, Input, Output, Nothing}
+use Rattle.screen_words.specs.declared.ends.Inputs.{Inputs}
+use Rattle.screen_words.specs.declared.ends.Outputs.{Outputs}
+use Rattle.screen_words.specs.declared.status.Ending.{Ending}
+use Rattle.screen_words.specs.declared.status.Ending.TheVariants as ending
 use Rattle.screen_tool.specs.Answer.{Extent, Whole, Begun, Unread, Answer, AreFront}
 use Rattle.screen_tool.specs.Answers.{Answers, OneOutcome, RestsOnRead}
-use Rattle.screen_tool.specs.Command.{roles_of}
-use Rattle.screen_tool.specs.Ending.{outcome_status, status_of}
+use Rattle.screen_words.specs.Command.{roles_of}
+use Rattle.screen_words.specs.Ending.{outcome_status, status_of}
 use Rattle.screen_tool.specs.Check.{check_text}
 use Rattle.screen_tool.specs.Performance.{IsRead, IsAnswered, IsCut, IsWritten, LeavesUnused, Performs, AreTold, IsDue}
 use Rattle.screen_tool.proofs.AnswerLaws.{checked_has, found_reads, global_has}

@@ -9,9 +9,6 @@ pub mod SampleLaws
 pub mod SampleSteps
 pub mod Steps
 pub mod Due
-pub mod FileWords
 pub mod Found
-pub mod NoteWords
-pub mod NumberWords
 pub mod Decided
 pub mod DecidedCheck

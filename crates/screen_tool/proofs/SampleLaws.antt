@@ -12,7 +12,7 @@ use Rattle.screen_model.specs.Cost.{Problem, cost}
 use Rattle.series_csv.specs.File.{TableView}
 use Rattle.series_csv.specs.Readings.{values}
 use Rattle.series_rows.specs.declared.fault.TableFault.{TableFault}
-use Rattle.screen_tool.specs.declared.status.Outcome.TheVariants as outcome
+use Rattle.screen_words.specs.declared.status.Outcome.TheVariants as outcome
 use Rattle.screen_tool.specs.Answer.{Answer}
 use Rattle.screen_tool.specs.Files.{RulesAreOne, ReadingsAreOne}
 use Rattle.screen_tool.specs.Sample.{AfterSampleReadings, AfterSampleRules, AnswersSample, AnswersSampleBy, SumsUp, changed, summary_of, summary_text, unread}

@@ -18,22 +18,23 @@ use Rattle.screen_model.specs.Cost.{Problem}
 use Rattle.series_csv.specs.File.{TableView, ReadsTable}
 use Rattle.series_csv.specs.declared.table.TheConstants.{LONGEST as longest_readings}
 use Rattle.series_rows.specs.declared.fault.TableFault.{TableFault}
-use Rattle.screen_tool.specs.declared.command.Command.{Command}
-use Rattle.screen_tool.specs.declared.command.Command.TheVariants.{Global}
-use Rattle.screen_tool.specs.declared.ends.Inputs.{Inputs}
-use Rattle.screen_tool.specs.declared.ends.Outputs.{Outputs}
+use Rattle.screen_words.specs.declared.command.Command.{Command}
+use Rattle.screen_words.specs.declared.command.Command.TheVariants.{Global}
+use Rattle.screen_words.specs.declared.ends.Inputs.{Inputs}
+use Rattle.screen_words.specs.declared.ends.Outputs.{Outputs}
 use Rattle.screen_tool.specs.declared.reply.Reply.{Reply}
-use Rattle.screen_tool.specs.declared.status.Ending.{Ending}
-use Rattle.screen_tool.specs.declared.status.Ending.TheVariants as ending
-use Rattle.screen_tool.specs.declared.status.Outcome.TheVariants.{Done, Usage}
-use Rattle.screen_tool.specs.declared.step.StepFault.{StepFault}
-use Rattle.screen_tool.specs.declared.step.StepFault.TheVariants as fault
+use Rattle.screen_words.specs.declared.status.Ending.{Ending}
+use Rattle.screen_words.specs.declared.status.Ending.TheVariants as ending
+use Rattle.screen_words.specs.declared.status.Outcome.TheVariants.{Done, Usage}
+use Rattle.screen_words.specs.declared.step.StepFault.{StepFault}
+use Rattle.screen_words.specs.declared.step.StepFault.TheVariants as fault
 use Rattle.screen_tool.specs.Answer.{Extent, Whole, Answer}
 use Rattle.screen_tool.specs.Answers.{Answers, AnswersBy, usage}
 use Rattle.screen_tool.specs.Files.{AfterBoth, RulesAreOne, rules_too_long, rules_refused, readings_too_long, readings_refused, too_many_bounds}
 use Rattle.screen_tool.specs.Global.{AnswersGlobal, AnswersGlobalBy, AnswersTableBy, IsFoundFor, answer_of}
 use Rattle.screen_tool.specs.Performance.{IsAnswerTo, IsRead, AreRead, IsAnswered, Stays, Stops, LeavesSinks, IsWritten, IsNoted, Performs}
-use Rattle.screen_tool.specs.Step.{Comes, IsFound, IsReplyOf, IsStopped, IsStep, WasRead, Ends, Replies, rules_ending, readings_ending, repair_ending}
+use Rattle.screen_tool.specs.Step.{Comes, IsFound, IsReplyOf, IsStopped, IsStep, WasRead, Ends, Replies}
+use Rattle.screen_words.specs.Faults.{rules_ending, readings_ending, repair_ending}
 use Rattle.screen_tool.proofs.AnswerLaws.{any_answer, global_any, global_wholly, reads_both}
 use Rattle.screen_tool.proofs.BothFiles.{needs_readings, needs_rules}
 

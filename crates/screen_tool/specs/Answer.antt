@@ -1,7 +1,7 @@
 -- To be believed: the form of what a command answers to the bytes of its sources.
 use Rattle.std.specs.Prelude.{◌≡◌, ◌⊎◌, ℕ, ◌<◌, ◌≤◌, List, ◌++◌, length, Option, Result, MatchResult}
-use Rattle.screen_tool.specs.declared.ends.Inputs.{Inputs}
-use Rattle.screen_tool.specs.declared.status.Outcome.{Outcome}
+use Rattle.screen_words.specs.declared.ends.Inputs.{Inputs}
+use Rattle.screen_words.specs.declared.status.Outcome.{Outcome}
 
 -- how far a source is read: to its end, or so many bytes and no further, or not at all
 pub data Extent : Type 0 where

@@ -5,10 +5,10 @@ use Rattle.least_cost.specs.declared.outcome.Outcome.{Outcome as Found}
 use Rattle.rule_file.specs.declared.rules.Rules.{Rules}
 use Rattle.screen_model.specs.Cost.{Problem}
 use Rattle.series_csv.specs.File.{TableView}
-use Rattle.screen_tool.specs.declared.command.Command.{Command}
-use Rattle.screen_tool.specs.declared.command.Command.TheVariants.{Check, Global, Report, Sample}
-use Rattle.screen_tool.specs.declared.ends.Inputs.{Inputs}
-use Rattle.screen_tool.specs.declared.status.Outcome.TheVariants.{Usage}
+use Rattle.screen_words.specs.declared.command.Command.{Command}
+use Rattle.screen_words.specs.declared.command.Command.TheVariants.{Check, Global, Report, Sample}
+use Rattle.screen_words.specs.declared.ends.Inputs.{Inputs}
+use Rattle.screen_words.specs.declared.status.Outcome.TheVariants.{Usage}
 use Rattle.screen_tool.specs.Answer.{Unread, Answer, AreFronts}
 use Rattle.screen_tool.specs.Check.{AnswersCheckBy}
 use Rattle.screen_tool.specs.Files.{without_texts}

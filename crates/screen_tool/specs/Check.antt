@@ -5,7 +5,7 @@ use Rattle.cert_check.specs.declared.accepted.Accepted.{Accepted}
 use Rattle.cert_check.specs.declared.accepted.Accepted.TheVariants.{Repair, NoSeries}
 use Rattle.rule_file.specs.declared.rules.Rules.{Rules}
 use Rattle.series_csv.specs.File.{TableView}
-use Rattle.screen_tool.specs.declared.ends.Inputs.{Inputs}
+use Rattle.screen_words.specs.declared.ends.Inputs.{Inputs}
 use Rattle.screen_tool.specs.Answer.{Answer}
 use Rattle.screen_tool.specs.Checked.{AnswersChecked}
 

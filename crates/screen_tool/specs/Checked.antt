@@ -7,8 +7,8 @@ use Rattle.cert_check.specs.declared.fault.CertFault.TheVariants.{FileTooLong}
 use Rattle.cert_format.specs.declared.limits.TheConstants.{LONGEST as longest_cert}
 use Rattle.rule_file.specs.declared.rules.Rules.{Rules}
 use Rattle.series_csv.specs.File.{TableView}
-use Rattle.screen_tool.specs.declared.ends.Inputs.{Inputs}
-use Rattle.screen_tool.specs.declared.status.Outcome.TheVariants.{Done, CertRefused}
+use Rattle.screen_words.specs.declared.ends.Inputs.{Inputs}
+use Rattle.screen_words.specs.declared.status.Outcome.TheVariants.{Done, CertRefused}
 use Rattle.screen_tool.specs.Answer.{Extent, Whole, Begun, Answer, AfterFile, AreOne}
 use Rattle.screen_tool.specs.Files.{AfterBoth, AfterBounds}
 

@@ -13,9 +13,9 @@ use Rattle.series_csv.specs.declared.table.TheConstants.{LONGEST as longest_read
 use Rattle.series_rows.specs.Faults.{of_the_file as of_the_readings}
 use Rattle.series_rows.specs.declared.fault.TableFault.{TableFault}
 use Rattle.series_rows.specs.declared.fault.TableCause.TheVariants as readings
-use Rattle.screen_tool.specs.declared.ends.Inputs.{Inputs}
-use Rattle.screen_tool.specs.declared.status.Outcome.{Outcome}
-use Rattle.screen_tool.specs.declared.status.Outcome.TheVariants.{RulesRefused, ReadingsRefused, TooManyBounds}
+use Rattle.screen_words.specs.declared.ends.Inputs.{Inputs}
+use Rattle.screen_words.specs.declared.status.Outcome.{Outcome}
+use Rattle.screen_words.specs.declared.status.Outcome.TheVariants.{RulesRefused, ReadingsRefused, TooManyBounds}
 use Rattle.screen_tool.specs.Answer.{Extent, Whole, Begun, Unread, Answer, AfterFile, AreOne}
 
 -- The answer that writes nothing, where the rules and the readings are read so far, and no certificate is.

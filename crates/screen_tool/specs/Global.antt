@@ -10,8 +10,8 @@ use Rattle.rule_file.specs.declared.rules.Rules.{Rules}
 use Rattle.screen_model.specs.Cost.{Problem}
 use Rattle.series_csv.specs.File.{TableView}
 use Rattle.series_csv.specs.Text.{table_text}
-use Rattle.screen_tool.specs.declared.ends.Inputs.{Inputs}
-use Rattle.screen_tool.specs.declared.status.Outcome.TheVariants.{Done, NoSeries}
+use Rattle.screen_words.specs.declared.ends.Inputs.{Inputs}
+use Rattle.screen_words.specs.declared.status.Outcome.TheVariants.{Done, NoSeries}
 use Rattle.screen_tool.specs.Answer.{Whole, Unread, Answer}
 use Rattle.screen_tool.specs.Certificates.{cert_of, claim_of}
 use Rattle.screen_tool.specs.Files.{AfterBoth, AfterBounds}

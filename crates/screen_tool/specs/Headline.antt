@@ -21,12 +21,12 @@ use Rattle.series_csv.specs.Readings.{places, values}
 use Rattle.series_csv.specs.Text.{table_text}
 use Rattle.screen_io.specs.Faults.{Rose}
 use Rattle.screen_io.specs.Sink.{Gains}
-use Rattle.screen_tool.specs.declared.ends.Inputs.{Inputs}
-use Rattle.screen_tool.specs.declared.ends.Outputs.{Outputs}
-use Rattle.screen_tool.specs.declared.status.Status.{Status}
-use Rattle.screen_tool.specs.declared.status.Status.TheVariants.{Done, NoSeries, WriteFault}
+use Rattle.screen_words.specs.declared.ends.Inputs.{Inputs}
+use Rattle.screen_words.specs.declared.ends.Outputs.{Outputs}
+use Rattle.screen_words.specs.declared.status.Status.{Status}
+use Rattle.screen_words.specs.declared.status.Status.TheVariants.{Done, NoSeries, WriteFault}
 use Rattle.screen_tool.specs.Certificates.{repair_cert}
-use Rattle.screen_tool.specs.Ending.{IsUnless}
+use Rattle.screen_words.specs.Ending.{IsUnless}
 use Rattle.screen_tool.specs.Files.{HasFewBounds}
 
 -- some series obeys every bound of the rules that has no price; or none does

@@ -8,11 +8,11 @@ use Rattle.rule_file.specs.declared.rules.Rules.{Rules}
 use Rattle.series_csv.specs.File.{TableView, Spells as SpellsTable}
 use Rattle.screen_io.specs.Faults.{Rose}
 use Rattle.screen_io.specs.Sink.{Gains}
-use Rattle.screen_tool.specs.declared.ends.Inputs.{Inputs}
-use Rattle.screen_tool.specs.declared.ends.Outputs.{Outputs}
-use Rattle.screen_tool.specs.declared.status.Status.{Status}
-use Rattle.screen_tool.specs.declared.status.Status.TheVariants.{Done, CertRefused, WriteFault}
-use Rattle.screen_tool.specs.Ending.{IsUnless}
+use Rattle.screen_words.specs.declared.ends.Inputs.{Inputs}
+use Rattle.screen_words.specs.declared.ends.Outputs.{Outputs}
+use Rattle.screen_words.specs.declared.status.Status.{Status}
+use Rattle.screen_words.specs.declared.status.Status.TheVariants.{Done, CertRefused, WriteFault}
+use Rattle.screen_words.specs.Ending.{IsUnless}
 use Rattle.screen_tool.specs.Files.{HasFewBounds}
 
 -- a source counted a fault

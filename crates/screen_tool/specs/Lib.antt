@@ -3,15 +3,11 @@ pub mod Answers
 pub mod Certificates
 pub mod Check
 pub mod Checked
-pub mod Command
-pub mod Ending
 pub mod Files
 pub mod Global
 pub mod Headline
 pub mod HeadlineCheck
-pub mod Note
 pub mod Performance
-pub mod RealEnds
 pub mod Report
 pub mod Sample
 pub mod Step

@@ -9,15 +9,15 @@ use Rattle.screen_io.specs.Faults.{Rose}
 use Rattle.screen_io.specs.Sink.{Gains, GainsPrefix}
 use Rattle.screen_io.specs.Source.{Takes, IsAtEnd}
 use Rattle.series_csv.specs.declared.table.TheConstants.{LONGEST as longest_readings}
-use Rattle.screen_tool.specs.declared.ends.EndUse.TheVariants.{Nothing}
-use Rattle.screen_tool.specs.declared.ends.Inputs.{Inputs}
-use Rattle.screen_tool.specs.declared.ends.Outputs.{Outputs}
-use Rattle.screen_tool.specs.declared.ends.Roles.{Roles}
-use Rattle.screen_tool.specs.declared.status.Ending.{Ending}
-use Rattle.screen_tool.specs.declared.status.Ending.TheVariants.{Ended, ReadFault, WriteFault, Memory}
-use Rattle.screen_tool.specs.declared.status.Status.{Status}
+use Rattle.screen_words.specs.declared.ends.EndUse.TheVariants.{Nothing}
+use Rattle.screen_words.specs.declared.ends.Inputs.{Inputs}
+use Rattle.screen_words.specs.declared.ends.Outputs.{Outputs}
+use Rattle.screen_words.specs.declared.ends.Roles.{Roles}
+use Rattle.screen_words.specs.declared.status.Ending.{Ending}
+use Rattle.screen_words.specs.declared.status.Ending.TheVariants.{Ended, ReadFault, WriteFault, Memory}
+use Rattle.screen_words.specs.declared.status.Status.{Status}
 use Rattle.screen_tool.specs.Answer.{Extent, Whole, Begun, Unread, Answer}
-use Rattle.screen_tool.specs.Ending.{IsStatusFor}
+use Rattle.screen_words.specs.Ending.{IsStatusFor}
 
 -- what a command answers to the bytes of its sources
 abbrev pub IsAnswerTo : Type 1

@@ -14,12 +14,12 @@ use Rattle.screen_model.specs.Cost.{Problem}
 use Rattle.series_csv.specs.File.{TableView, ReadsTable}
 use Rattle.series_csv.specs.Readings.{values}
 use Rattle.series_rows.specs.declared.fault.TableFault.{TableFault}
-use Rattle.screen_tool.specs.declared.status.Outcome.TheVariants.{Done, NoSeries}
+use Rattle.screen_words.specs.declared.status.Outcome.TheVariants.{Done, NoSeries}
 use Rattle.screen_io.specs.Sink.{Gains}
 use Rattle.sample_maker.specs.declared.make.TheConstants.{MOST_ROWS, MOST_SEED}
-use Rattle.screen_tool.specs.declared.command.Command.{Command}
-use Rattle.screen_tool.specs.declared.command.Command.TheVariants.{Check, Global, Report, Sample}
-use Rattle.screen_tool.specs.declared.ends.Outputs.{Outputs}
+use Rattle.screen_words.specs.declared.command.Command.{Command}
+use Rattle.screen_words.specs.declared.command.Command.TheVariants.{Check, Global, Report, Sample}
+use Rattle.screen_words.specs.declared.ends.Outputs.{Outputs}
 use Rattle.screen_tool.specs.Answer.{Unread, Answer}
 use Rattle.screen_tool.specs.Files.{AfterBounds, readings_refused, rules_refused, without_texts}
 

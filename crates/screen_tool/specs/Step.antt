@@ -24,13 +24,13 @@ use Rattle.series_rows.specs.declared.fault.TableFault.{TableFault}
 use Rattle.series_rows.specs.declared.fault.TableCause.TheVariants as readings
 use Rattle.screen_io.specs.Faults.{Rose}
 use Rattle.screen_io.specs.Source.{Takes}
-use Rattle.screen_tool.specs.declared.ends.Inputs.{Inputs}
+use Rattle.screen_words.specs.declared.ends.Inputs.{Inputs}
 use Rattle.screen_tool.specs.declared.reply.Reply.{Reply}
-use Rattle.screen_tool.specs.declared.status.Ending.{Ending}
-use Rattle.screen_tool.specs.declared.status.Ending.TheVariants as ending
-use Rattle.screen_tool.specs.declared.status.Outcome.TheVariants.{RulesRefused, ReadingsRefused, TooManyBounds, CertRefused}
-use Rattle.screen_tool.specs.declared.step.StepFault.{StepFault}
-use Rattle.screen_tool.specs.declared.step.StepFault.TheVariants.{TooLong, Refused, Failed, Memory}
+use Rattle.screen_words.specs.declared.status.Ending.{Ending}
+use Rattle.screen_words.specs.declared.status.Ending.TheVariants as ending
+use Rattle.screen_words.specs.declared.status.Outcome.TheVariants.{RulesRefused, ReadingsRefused, TooManyBounds, CertRefused}
+use Rattle.screen_words.specs.declared.step.StepFault.{StepFault}
+use Rattle.screen_words.specs.declared.step.StepFault.TheVariants.{TooLong, Refused, Failed, Memory}
 use Rattle.screen_tool.specs.declared.checked.Checked.{Checked}
 use Rattle.screen_tool.specs.Answer.{Whole, Begun, Answer}
 use Rattle.screen_tool.specs.Checked.{AnswersChecked}
@@ -44,33 +44,6 @@ IsFound Reads bytes (Err (Refused fault)) = Reads bytes (Err fault)
 IsFound Reads bytes (Err Memory) = Unit {0}
 IsFound Reads bytes (Err TooLong) = ⊥
 IsFound Reads bytes (Err Failed) = ⊥
-
--- how a command ends at a fault of its rules, of its readings, of its certificate, of the bounds, and of a repair
-abbrev pub rules_ending : StepFault RuleFault → Ending
-rules_ending TooLong = ending.Ended (RulesRefused (of_the_rules rules.FileTooLong))
-rules_ending (Refused fault) = ending.Ended (RulesRefused fault)
-rules_ending Failed = ending.ReadFault
-rules_ending Memory = ending.Memory
-
-abbrev pub readings_ending : StepFault TableFault → Ending
-readings_ending TooLong = ending.Ended (ReadingsRefused (of_the_readings readings.FileTooLong))
-readings_ending (Refused fault) = ending.Ended (ReadingsRefused fault)
-readings_ending Failed = ending.ReadFault
-readings_ending Memory = ending.Memory
-
-abbrev pub cert_ending : StepFault CertFault → Ending
-cert_ending TooLong = ending.Ended (CertRefused FileTooLong)
-cert_ending (Refused fault) = ending.Ended (CertRefused fault)
-cert_ending Failed = ending.ReadFault
-cert_ending Memory = ending.Memory
-
-abbrev pub make_ending : MakeFault → Ending
-make_ending make.TooManyBounds = ending.Ended TooManyBounds
-make_ending make.Memory = ending.Memory
-
-abbrev pub repair_ending : RepairFault → Ending
-repair_ending repair.TooManyBounds = ending.Ended TooManyBounds
-repair_ending repair.Memory = ending.Memory
 
 -- The reply is the answer: what it comes to, and its texts.
 pub record IsReplyOf (answer : Answer) (reply : Reply) : Type 0 where

@@ -6,10 +6,10 @@ ghost use Rattle.screen_tool.specs.Check.{AnswersCheck, AnswersCheckBy, check_te
 ghost use Rattle.screen_tool.specs.Step.{Ends, Replies};
 
 use crate::checked::check_files;
-use crate::ends::Inputs;
+use screen_words::Inputs;
 use crate::laws::files_are_one;
 use crate::reply::Reply;
-use crate::status::{Ending, Outcome};
+use screen_words::{Ending, Outcome};
 use cert_check::Accepted;
 use itoa::Buffer;
 use screen_io::Source;

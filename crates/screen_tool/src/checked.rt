@@ -2,10 +2,10 @@
 ghost use Rattle.std.specs.Prelude.{◌≡◌, ◌≢◌, Err, MatchResult};
 ghost use Rattle.screen_tool.specs.Step.{EndsUnchecked, IsChecked};
 
-use crate::ends::Inputs;
+use screen_words::Inputs;
 use crate::files::{accepted_from, rules_from, table_from};
 use crate::laws::files_are_one;
-use crate::status::{Ending, Outcome};
+use screen_words::{Ending, Outcome};
 use bound_maker::make;
 use cert_check::{Accepted, accepted_is_true};
 use rule_file::Rules;

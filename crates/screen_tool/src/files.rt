@@ -10,7 +10,7 @@ ghost use Rattle.series_csv.specs.declared.table.TheConstants.{LONGEST as longes
 ghost use Rattle.series_csv.specs.File.{ReadsTable};
 ghost use Rattle.screen_tool.specs.Step.{IsFound, IsStep, WasRead};
 
-use crate::step::StepFault;
+use screen_words::StepFault;
 use cert_check::{Accepted, CertFault, check};
 use rule_file::{RuleCause, RuleFault, Rules, read_rules};
 use screen_io::{ReadFault, Source, read_all};

@@ -8,11 +8,11 @@ ghost use Rattle.screen_tool.specs.Headline.{CountsReadFault};
 ghost use Rattle.screen_tool.specs.Step.{Comes, Ends, IsReplyOf, Replies};
 
 use crate::cert::cert_of;
-use crate::ends::Inputs;
+use screen_words::Inputs;
 use crate::files::{rules_from, table_from};
 use crate::laws::files_are_one;
 use crate::reply::Reply;
-use crate::status::{Ending, Outcome};
+use screen_words::{Ending, Outcome};
 use bound_maker::{names_can_be_written, problem_is_sound};
 use cert_check::{shown_is_short, truth_is_accepted};
 use cert_format::write_cert;

@@ -5,27 +5,21 @@
 #![tactic(auto)]
 
 mod cert;
-mod cert_note;
 mod check;
 mod checked;
-mod command;
-mod ends;
 mod files;
 mod global;
 mod laws;
-mod note;
-mod outside;
+mod online;
 mod prices;
 mod program;
 mod reply;
 mod report;
 mod sample;
-mod status;
-mod step;
 
-pub use command::{Command, roles};
-pub use ends::{EndUse, Inputs, Outputs, Roles};
 pub use laws::{one_outcome, one_text, rests_on_read};
-pub use outside::real_ends;
+pub use online::{MOST_BYTES, PIECE};
 pub use program::run;
-pub use status::{Ending, Outcome, Status};
+pub use screen_words::{
+    Command, EndUse, Ending, Inputs, Outcome, Outputs, Roles, Status, real_ends, roles,
+};

@@ -2,7 +2,7 @@
 ghost use Rattle.std.specs.Prelude.{OnOk, OnErr, option_map};
 ghost use Rattle.screen_tool.specs.Performance.{IsCut, IsWritten};
 
-use crate::status::Outcome;
+use screen_words::Outcome;
 use screen_io::{Failed, Sink, write_all_of};
 
 /// What a command comes to, and the texts that it writes.

@@ -5,10 +5,10 @@ ghost use Rattle.screen_tool.specs.Report.{AnswersReport, AnswersReportBy};
 ghost use Rattle.screen_tool.specs.Step.{Ends, Replies};
 
 use crate::checked::check_files;
-use crate::ends::Inputs;
+use screen_words::Inputs;
 use crate::laws::files_are_one;
 use crate::reply::Reply;
-use crate::status::{Ending, Outcome};
+use screen_words::{Ending, Outcome};
 use repair_report::report_text;
 use screen_io::Source;
 use std::alloc::Global;

@@ -11,7 +11,7 @@ ghost use Rattle.screen_tool.specs.Step.{Comes, IsReplyOf};
 
 use crate::files::{rules_of, table_of};
 use crate::reply::Reply;
-use crate::status::{Ending, Outcome};
+use screen_words::{Ending, Outcome};
 use flow_core::Solver;
 use global_repair::{Outcome as Found, repair};
 use itoa::Buffer;

@@ -2,8 +2,8 @@
 #![tactic(auto)]
 
 #[cfg(test)]
-mod screen_tool_check_tests;
+mod check_tests;
 #[cfg(test)]
-mod screen_tool_sample_tests;
+mod run_tests;
 #[cfg(test)]
-mod screen_tool_tests;
+mod sample_tests;

@@ -1,6 +1,6 @@
 //! The numbers of rules, and the sensors in their order.
 
-use rule_file::tests::MIXED;
+use crate::rule_file_tests::MIXED;
 use rule_file::{NamedSensor, RuleAt, Rules, read_rules, rules_are_numbered};
 use std::test::Fail;
 

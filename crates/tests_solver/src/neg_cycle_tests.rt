@@ -6,7 +6,6 @@ ghost use Rattle.bound_graph.specs.Arcs.{IsArc};
 mod large;
 
 use bound_graph::{Arc, ArcList, ArcTable, Graph};
-use neg_cycle::forest::{Parent, rank_or_cycle};
 use neg_cycle::{
     Room, Settled, Transposed, greatest_is_one, least_by_transposing, least_is_one, settle,
     transposed_is_negated,
@@ -208,76 +207,5 @@ fn graphs_settle_and_give_the_least_transposed(rt: HostRuntime) -> Result<(), Fa
     least_by_transposing();
     greatest_is_one();
     least_is_one();
-    Ok(())
-}
-
-/// Parents with these tails, as far as there are such nodes.
-fn parents_of(alloc: Global, tails: &[Option<u32>]) -> Result<Vec<Option<Parent>>, AllocError>
-    ensures length { IfOk result (λ parents. length parents.items ≡ length tails.now) }
-    ensures tails { IfOk result (λ parents. All (λ parent. IfSome parent (λ p. p.tail < length tails.now)) parents.items) }
-{
-    let mut parents = vec![in alloc; None; tails.len()]?;
-    for (node, tail) in tails.iter().enumerate() {
-        if let Some(tail) = *tail {
-            if (tail as usize) < tails.len() {
-                parents[node] = Some(Parent { arc: 0, tail });
-            }
-        }
-    }
-    Ok(parents)
-}
-
-/// The ranks of nodes whose parents have these tails, or else the nodes of a cycle.
-fn answer(alloc: Global, tails: &[Option<u32>]) -> Result<(Vec<u64>, Vec<u32>), AllocError>
-    requires { length tails.now < 2 ^ 32 }
-{
-    let parents = parents_of(alloc, tails)?;
-    let mut ranks = vec![in alloc; 0u64; parents.len()]?;
-    let mut path = vec![in alloc; 0u32; parents.len()]?;
-    let mut cycle = Vec::new(alloc);
-    match rank_or_cycle(&parents, &mut ranks, &mut path) {
-        Some(stretch) => {
-            cycle.extend_from_slice(&path[stretch.start..stretch.end])?;
-            Ok((Vec::new(alloc), cycle))
-        }
-        None => Ok((ranks, cycle)),
-    }
-}
-
-#[test]
-fn nodes_are_ranked_by_their_parents(rt: HostRuntime) -> Result<(), Fail> {
-    let (ranks, cycle) = answer(rt.alloc(), &[])?;
-    assert_eq!(rt; (ranks.len(), cycle.len()), (0, 0));
-    let (ranks, _) = answer(rt.alloc(), &[None])?;
-    assert_eq!(rt; ranks.as_slice(), [0].as_slice());
-    let (ranks, _) = answer(rt.alloc(), &[None, Some(0), Some(1), Some(2)])?;
-    assert_eq!(rt; ranks.as_slice(), [0, 1, 2, 3].as_slice());
-    let (ranks, _) = answer(rt.alloc(), &[Some(2), Some(3), Some(1), None])?;
-    assert_eq!(rt; ranks.as_slice(), [3, 1, 2, 0].as_slice());
-    Ok(())
-}
-
-#[test]
-fn cycles_of_parents_are_found(rt: HostRuntime) -> Result<(), Fail> {
-    let (_, cycle) = answer(rt.alloc(), &[Some(0)])?;
-    assert_eq!(rt; cycle.as_slice(), [0].as_slice());
-    let (_, cycle) = answer(rt.alloc(), &[Some(1), Some(0)])?;
-    assert_eq!(rt; cycle.as_slice(), [0, 1].as_slice());
-    let (_, cycle) = answer(rt.alloc(), &[None, Some(3), Some(4), Some(2), Some(3)])?;
-    assert_eq!(rt; cycle.as_slice(), [3, 2, 4].as_slice());
-    Ok(())
-}
-
-#[test]
-fn a_chain_of_100000_nodes(rt: HostRuntime) -> Result<(), Fail> {
-    let mut tails = vec![in rt.alloc(); None; 100_000]?;
-    for node in 1..100_000u32 {
-        tails[node as usize - 1] = Some(node);
-    }
-    let (ranks, _) = answer(rt.alloc(), &tails)?;
-    assert_eq!(rt; ranks.first(), Some(&99_999));
-    tails[99_999] = Some(50_000);
-    let (_, cycle) = answer(rt.alloc(), &tails)?;
-    assert_eq!(rt; (cycle.first(), cycle.len()), (Some(&50_000), 50_000));
     Ok(())
 }

@@ -2,8 +2,8 @@
 ghost use Rattle.std.specs.Prelude.{◌≡◌, length, IfOk};
 
 use super::Table;
-use crate::{Room, Settled, settle};
 use bound_graph::{Arc, ArcList};
+use neg_cycle::{Room, Settled, settle};
 use std::alloc::{AllocError, Global};
 use std::cell::Cell;
 use std::process::Abort;

@@ -1,6 +1,6 @@
 use Rattle.cert_check.specs.Laws.{IsTrueClaim}
 use Rattle.least_cost.specs.Answer.{CountsChanges}
-use Rattle.screen_tool.specs.declared.status.Ending.TheVariants.{Ended, WriteFault}
+use Rattle.screen_words.specs.declared.status.Ending.TheVariants.{Ended, WriteFault}
 use Rattle.screen_tool.proofs.Due.{unused}
 use Rattle.screen_tool.proofs.Steps.{any_reply}
 use Rattle.screen_tool.proofs.program.ending_of.Goals as goal

@@ -1,8 +1,8 @@
 use Rattle.std.proofs.Common.{◌≡◌, ◌∙◌, Option, Some, MatchResult, ap, sym, subst}
 use Rattle.cert_check.specs.Laws.{IsTrueClaim}
 use Rattle.least_cost.specs.Answer.{CountsChanges}
-use Rattle.screen_tool.specs.declared.command.Command.{Command}
-use Rattle.screen_tool.specs.declared.command.Command.TheVariants.{Check, Global, Report, Sample}
+use Rattle.screen_words.specs.declared.command.Command.{Command}
+use Rattle.screen_words.specs.declared.command.Command.TheVariants.{Check, Global, Report, Sample}
 use Rattle.screen_tool.specs.Answers.{Answers, AnswersBy}
 use Rattle.screen_tool.specs.Sample.{HasLimits}
 use Rattle.screen_tool.specs.Step.{Ends, Replies}

@@ -2,15 +2,15 @@ use Rattle.std.proofs.Common.{◌≡◌, ◌∙◌, Option, Some, subst, sym}
 use Rattle.cert_check.specs.Laws.{IsTrueClaim}
 use Rattle.least_cost.specs.Answer.{CountsChanges}
 use Rattle.repair_report.specs.Report.{report_text}
-use Rattle.screen_tool.specs.declared.command.Command.{Command}
-use Rattle.screen_tool.specs.declared.command.Command.TheVariants.{Check, Global, Report, Sample}
-use Rattle.screen_tool.specs.declared.status.Ending.TheVariants as ending
-use Rattle.screen_tool.specs.declared.status.Outcome.TheVariants as outcome
+use Rattle.screen_words.specs.declared.command.Command.{Command}
+use Rattle.screen_words.specs.declared.command.Command.TheVariants.{Check, Global, Report, Sample}
+use Rattle.screen_words.specs.declared.status.Ending.TheVariants as ending
+use Rattle.screen_words.specs.declared.status.Outcome.TheVariants as outcome
 use Rattle.screen_tool.specs.Answers.{Answers, AnswersBy}
 use Rattle.screen_tool.specs.Check.{check_text}
-use Rattle.screen_tool.specs.Command.{roles_of, texts}
-use Rattle.screen_tool.specs.Ending.{status_of}
-use Rattle.screen_tool.specs.Note.{note_text}
+use Rattle.screen_words.specs.Command.{roles_of, texts}
+use Rattle.screen_words.specs.Ending.{status_of}
+use Rattle.screen_words.specs.Note.{note_text}
 use Rattle.screen_tool.specs.Performance.{IsDue, Performs}
 use Rattle.screen_tool.specs.Sample.{HasLimits}
 use Rattle.screen_tool.proofs.Decided.{headline, is_done}

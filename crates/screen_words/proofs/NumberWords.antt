@@ -4,8 +4,8 @@ use Rattle.std.specs.Str.{all_ascii_digits}
 use Rattle.std.specs.Str.Parse.{AllDigits, digits_value}
 use Rattle.std.proofs.lemmas.Bool.{le-leb, leb-true}
 use Rattle.std.proofs.lemmas.Str.Parse.{numerals_by_value, tells_all_ascii_digits}
-use Rattle.screen_tool.specs.declared.command.TheConstants.{MOST_DIGITS}
-use Rattle.screen_tool.specs.Command.{number_of}
+use Rattle.screen_words.specs.declared.command.TheConstants.{MOST_DIGITS}
+use Rattle.screen_words.specs.Command.{number_of}
 
 abbrev by_tests : (a b c : Bool) (value : ℕ) → Option ℕ
 by_tests a b c value = if a && (b && c) then Some value else None

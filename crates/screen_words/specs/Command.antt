@@ -5,11 +5,11 @@ use Rattle.std.specs.Str.Parse.{digits_value}
 use Rattle.std.specs.Cmp.Lexicographic.{pointwise}
 use Rattle.std.specs.declared.alloc.Global.{Global as Heap}
 use Rattle.sample_maker.specs.declared.make.TheConstants.{MOST_ROWS, MOST_SEED}
-use Rattle.screen_tool.specs.declared.command.Command.{Command}
-use Rattle.screen_tool.specs.declared.command.TheConstants.{MOST_DIGITS}
-use Rattle.screen_tool.specs.declared.command.Command.TheVariants.{Check, Global, Report, Sample}
-use Rattle.screen_tool.specs.declared.ends.EndUse.TheVariants.{Word, Output, Nothing}
-use Rattle.screen_tool.specs.declared.ends.Roles.{Roles}
+use Rattle.screen_words.specs.declared.command.Command.{Command}
+use Rattle.screen_words.specs.declared.command.TheConstants.{MOST_DIGITS}
+use Rattle.screen_words.specs.declared.command.Command.TheVariants.{Check, Global, Online, Report, Sample}
+use Rattle.screen_words.specs.declared.ends.EndUse.TheVariants.{Word, Input, Output, Nothing}
+use Rattle.screen_words.specs.declared.ends.Roles.{Roles}
 
 -- the bytes of each word
 abbrev pub texts : List (String Heap) → List (List ℕ)
@@ -34,14 +34,19 @@ file_command name =
     if is_word (codes "global") name then Some Global
     else (if is_word (codes "check") name then Some Check else (if is_word (codes "report") name then Some Report else None))
 
+-- the command of this name that takes rules alone
+abbrev pub stream_command : List ℕ → Option Command
+stream_command name = if is_word (codes "online") name then Some Online else None
+
 -- the command of this name that takes a number of rows and a number that they are made from
 abbrev pub sample_command : List ℕ → List ℕ → List ℕ → Option Command
 sample_command name rows seed = if is_word (codes "sample") name then sample_of (number_of rows) (number_of seed) else None
 
--- `global RULES READINGS CERT`, `check RULES READINGS CERT`, `report RULES READINGS CERT` and `sample ROWS SEED` ask for those
--- commands, and nothing else asks for one
+-- `global RULES READINGS CERT`, `check RULES READINGS CERT`, `online RULES`, `report RULES READINGS CERT` and `sample ROWS SEED`
+-- ask for those commands, and nothing else asks for one
 abbrev pub command_of : List (List ℕ) → Option Command
 command_of (command ∷ rules ∷ readings ∷ cert ∷ []) = file_command command
+command_of (command ∷ rules ∷ []) = stream_command command
 command_of (command ∷ rows ∷ seed ∷ []) = sample_command command rows seed
 command_of _ = None
 
@@ -50,5 +55,6 @@ abbrev pub roles_of : Option Command → Roles
 roles_of (Some Global) = record { rules = Word 1; readings = Word 2; cert_read = Nothing; cert_written = Word 3; out = Output }
 roles_of (Some Check) = record { rules = Word 1; readings = Word 2; cert_read = Word 3; cert_written = Nothing; out = Output }
 roles_of (Some Report) = record { rules = Word 1; readings = Word 2; cert_read = Word 3; cert_written = Nothing; out = Output }
+roles_of (Some Online) = record { rules = Word 1; readings = Input; cert_read = Nothing; cert_written = Nothing; out = Output }
 roles_of (Some (Sample rows seed)) = record { rules = Nothing; readings = Nothing; cert_read = Nothing; cert_written = Nothing; out = Output }
 roles_of None = record { rules = Nothing; readings = Nothing; cert_read = Nothing; cert_written = Nothing; out = Nothing }

@@ -1,11 +1,11 @@
 //! Whole runs of the commands that check a certificate, over sources and sinks in memory.
-use super::tests::{
+use crate::run_tests::{
     BASE, BETWEEN, PRICED, RANGE_TRUST, SWING, changed, front, global, is_made, sink, source,
     still, words,
 };
-use super::{EndUse, Inputs, Outputs, Status, roles, run};
 use path_flow::PathSolver;
 use screen_io::{MemSink, MemSource, Source};
+use screen_tool::{EndUse, Inputs, Outputs, Status, roles, run};
 use std::alloc::{AllocError, Global};
 use std::process::Abort;
 use std::test::Fail;

@@ -1,11 +1,11 @@
 -- To be believed: which end that meets the world each of the program's roles calls for.
 use Rattle.std.specs.Prelude.{◌≡◌, ℕ, List, Option, Some, None, slice_get}
 use Rattle.screen_io.specs.Target.{Target, FileNamed, StandardInput, StandardOutput, StandardError, NoTarget, RealEnd, fresh}
-use Rattle.screen_tool.specs.declared.ends.EndUse.{EndUse}
-use Rattle.screen_tool.specs.declared.ends.EndUse.TheVariants.{Word, Input, Output}
-use Rattle.screen_tool.specs.declared.ends.Inputs.{Inputs}
-use Rattle.screen_tool.specs.declared.ends.Outputs.{Outputs}
-use Rattle.screen_tool.specs.declared.ends.Roles.{Roles}
+use Rattle.screen_words.specs.declared.ends.EndUse.{EndUse}
+use Rattle.screen_words.specs.declared.ends.EndUse.TheVariants.{Word, Input, Output}
+use Rattle.screen_words.specs.declared.ends.Inputs.{Inputs}
+use Rattle.screen_words.specs.declared.ends.Outputs.{Outputs}
+use Rattle.screen_words.specs.declared.ends.Roles.{Roles}
 
 -- The file of this name, where there is a name.
 abbrev pub file_named : Option (List ℕ) → Target

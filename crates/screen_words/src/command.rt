@@ -1,7 +1,7 @@
 //! The words of commands, and what each end of a command is.
 ghost use Rattle.std.specs.Prelude.{◌≡◌, ◌≤◌, length, IfSome, IfNone};
 ghost use Rattle.std.specs.Str.Parse.{AllDigits, digits_value};
-ghost use Rattle.screen_tool.specs.Command.{command_of, file_command, number_of, roles_of, sample_command, sample_of, texts};
+ghost use Rattle.screen_words.specs.Command.{command_of, file_command, number_of, roles_of, sample_command, sample_of, stream_command, texts};
 
 use crate::ends::{EndUse, Roles};
 use sample_maker::{MOST_ROWS, MOST_SEED};
@@ -16,6 +16,8 @@ pub enum Command {
     Global,
     /// `check RULES READINGS CERT`: tell whether the certificate is accepted.
     Check,
+    /// `online RULES`: repair the readings as they come on standard input.
+    Online,
     /// `report RULES READINGS CERT`: tell what an accepted certificate says, for a reader.
     Report,
     /// `sample ROWS SEED`: repair readings that are made from a number, and sum the repair up.
@@ -29,11 +31,12 @@ pub enum Command {
 
 /// The command that the words ask for, and `None` where they ask for none. The words do
 /// not hold the program's name.
-pub(crate) fn command_from(words: &[String]) -> Option<Command>
+pub fn command_from(words: &[String]) -> Option<Command>
     ensures { result ≡ command_of (texts words.now) }
 {
     match words {
         [name, _, _, _] => file_command(name.as_str()),
+        [name, _] => stream_command(name.as_str()),
         [name, rows, seed] => sample_command(name.as_str(), rows.as_str(), seed.as_str()),
         _ => None,
     }
@@ -51,6 +54,16 @@ fn file_command(name: &str) -> Option<Command>
     }
     if name == "report" {
         return Some(Command::Report);
+    }
+    None
+}
+
+/// The command of this name that takes rules alone.
+fn stream_command(name: &str) -> Option<Command>
+    ensures { result ≡ stream_command name.now }
+{
+    if name == "online" {
+        return Some(Command::Online);
     }
     None
 }
@@ -122,6 +135,13 @@ pub fn roles(words: &[String]) -> Roles
             rules: EndUse::Word(1),
             readings: EndUse::Word(2),
             cert_read: EndUse::Word(3),
+            cert_written: EndUse::Nothing,
+            out: EndUse::Output,
+        },
+        Some(Command::Online) => Roles {
+            rules: EndUse::Word(1),
+            readings: EndUse::Input,
+            cert_read: EndUse::Nothing,
             cert_written: EndUse::Nothing,
             out: EndUse::Output,
         },

@@ -2,7 +2,7 @@
 
 /// Why a step that reads a file has no value.
 #[derive(Clone, Copy, Debug, PartialEq, Eq)]
-pub(crate) enum StepFault<F> {
+pub enum StepFault<F> {
     /// The file is longer than it may be.
     TooLong,
     /// What the file says is refused.

@@ -1,7 +1,7 @@
 //! What the program says on standard error.
 ghost use Rattle.std.specs.Prelude.{◌≡◌, ◌+◌, ◌++◌, ◌≤◌, length, decimal};
 ghost use Rattle.arrayvec.specs.ArrayString.{array_string_len};
-ghost use Rattle.screen_tool.specs.Note.{note_text, outcome_text, readings_text, rule_cause_name, table_cause_name, time_fault_name, number_fault_name, cut_fault_name};
+ghost use Rattle.screen_words.specs.Note.{note_text, outcome_text, readings_text, rules_text, rule_cause_name, table_cause_name, time_fault_name, number_fault_name, cut_fault_name};
 
 use crate::cert_note::cert_note;
 use crate::status::{Ending, Outcome};
@@ -9,7 +9,7 @@ use arrayvec::ArrayString;
 use fix_point::NumFault;
 use itoa::Buffer;
 use record_cut::CutFault;
-use rule_file::{RuleCause, RuleFault};
+use rule_file::RuleCause;
 use series_csv::{TableCause, TableFault};
 use time_text::TimeFault;
 
@@ -17,13 +17,13 @@ use time_text::TimeFault;
 pub(crate) const ROOM: usize = 192;
 
 /// A note of one line, in place: it takes no memory.
-pub(crate) type Note = ArrayString<ROOM>;
+pub type Note = ArrayString<ROOM>;
 
 const USAGE: &str =
-    "usage: screen global RULES READINGS CERT\n       screen check RULES READINGS CERT\n       screen report RULES READINGS CERT\n       screen sample ROWS SEED\n";
+    "usage: screen global RULES READINGS CERT\n       screen check RULES READINGS CERT\n       screen online RULES\n       screen report RULES READINGS CERT\n       screen sample ROWS SEED\n";
 
 /// What the program says of an ending.
-pub(crate) fn note_of(ending: &Ending) -> Note
+pub fn note_of(ending: &Ending) -> Note
     ensures { result.bytes ≡ note_text ending.now }
 {
     let mut note = Note::new();
@@ -45,22 +45,28 @@ fn outcome_note(outcome: &Outcome) -> Note
         Outcome::Done => {}
         Outcome::NoSeries => note.push_str("screen: no series obeys the rules\n"),
         Outcome::Usage => note.push_str(USAGE),
-        Outcome::RulesRefused(fault) => return rules_note(fault),
+        Outcome::RulesRefused(fault) => return rules_note(rule_cause_name(fault.cause), fault.rule),
+        Outcome::NotOnline { rule } => return rules_note("NotOnline", *rule),
         Outcome::ReadingsRefused(fault) => return table_note(fault),
         Outcome::TooManyBounds => return readings_note("TooManyBounds", 0, 0),
+        Outcome::WindowFull { row } => return readings_note("WindowFull", *row, 0),
+        Outcome::NoWholeStep { row, col } => return readings_note("NoWholeStep", *row, *col),
+        Outcome::LeavesRange { row, col } => return readings_note("LeavesRange", *row, *col),
         Outcome::CertRefused(fault) => return cert_note(fault),
     }
     note
 }
 
-fn rules_note(fault: &RuleFault) -> Note
-    ensures { result.bytes ≡ outcome_text (Outcome.RulesRefused fault.now) }
+/// Why the rules are refused, by a name of at most 20 bytes.
+fn rules_note(name: &str, rule: u32) -> Note
+    requires { length name.now ≤ 20 }
+    ensures { result.bytes ≡ rules_text name.now rule }
 {
     let mut note = Note::new();
     note.push_str("screen: rules refused: ");
-    note.push_str(rule_cause_name(fault.cause));
+    note.push_str(name);
     note.push_str(", rule ");
-    push_number(&mut note, fault.rule);
+    push_number(&mut note, rule);
     note.push_str("\n");
     note
 }

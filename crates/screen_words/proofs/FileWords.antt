@@ -2,7 +2,7 @@
 use Rattle.std.proofs.Common.{◌≡◌, ℕ, ◌≤◌, ◌<◌, List, [], ◌∷◌, length, slice_index_or, refl, arith}
 use Rattle.std.specs.Prelude.{String, string_bytes}
 use Rattle.std.specs.declared.alloc.Global.{Global as Heap}
-use Rattle.screen_tool.specs.Command.{command_of, file_command, texts}
+use Rattle.screen_words.specs.Command.{command_of, file_command, texts}
 
 pub four : (words : List (String Heap)) (other : String Heap) → 4 ≤ length words → length words < 5 → file_command (string_bytes (slice_index_or words 0 other)) ≡ command_of (texts words)
 four [] other many few = absurd (omega (arith, many))

@@ -1,11 +1,11 @@
 -- To be believed: the status of each ending, and the number of each status.
 use Rattle.std.specs.Prelude.{◌≡◌, ◌⊎◌, ℕ}
-use Rattle.screen_tool.specs.declared.status.Status.{Status}
-use Rattle.screen_tool.specs.declared.status.Status.TheVariants as status
-use Rattle.screen_tool.specs.declared.status.Outcome.{Outcome}
-use Rattle.screen_tool.specs.declared.status.Outcome.TheVariants.{Done, NoSeries, Usage, RulesRefused, ReadingsRefused, TooManyBounds, CertRefused}
-use Rattle.screen_tool.specs.declared.status.Ending.{Ending}
-use Rattle.screen_tool.specs.declared.status.Ending.TheVariants.{Ended, ReadFault, WriteFault, Memory}
+use Rattle.screen_words.specs.declared.status.Status.{Status}
+use Rattle.screen_words.specs.declared.status.Status.TheVariants as status
+use Rattle.screen_words.specs.declared.status.Outcome.{Outcome}
+use Rattle.screen_words.specs.declared.status.Outcome.TheVariants.{Done, NoSeries, Usage, RulesRefused, NotOnline, ReadingsRefused, TooManyBounds, WindowFull, NoWholeStep, LeavesRange, CertRefused}
+use Rattle.screen_words.specs.declared.status.Ending.{Ending}
+use Rattle.screen_words.specs.declared.status.Ending.TheVariants.{Ended, ReadFault, WriteFault, Memory}
 
 abbrev pub code_of : Status → ℕ
 code_of status.Done = 0
@@ -23,8 +23,12 @@ outcome_status Done = status.Done
 outcome_status NoSeries = status.NoSeries
 outcome_status Usage = status.Usage
 outcome_status (RulesRefused fault) = status.RulesRefused
+outcome_status (NotOnline rule) = status.RulesRefused
 outcome_status (ReadingsRefused fault) = status.ReadingsRefused
 outcome_status TooManyBounds = status.ReadingsRefused
+outcome_status (WindowFull row) = status.ReadingsRefused
+outcome_status (NoWholeStep row col) = status.ReadingsRefused
+outcome_status (LeavesRange row col) = status.ReadingsRefused
 outcome_status (CertRefused fault) = status.CertRefused
 
 abbrev pub status_of : Ending → Status

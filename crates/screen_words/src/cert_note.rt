@@ -4,9 +4,9 @@ ghost use Rattle.std.specs.Fmt.{signed_decimal};
 ghost use Rattle.arrayvec.specs.ArrayString.{array_string_len};
 ghost use Rattle.cert_format.specs.Line.{name_words, side_word};
 ghost use Rattle.cert_format.specs.Words.{line_of_words};
-ghost use Rattle.screen_tool.specs.declared.note.TheConstants.{ROOM};
-ghost use Rattle.screen_tool.specs.Note.{cert_fault_words, outcome_text};
-ghost use Rattle.screen_tool.specs.declared.status.Outcome.{Outcome};
+ghost use Rattle.screen_words.specs.declared.note.TheConstants.{ROOM};
+ghost use Rattle.screen_words.specs.Note.{cert_fault_words, outcome_text};
+ghost use Rattle.screen_words.specs.declared.status.Outcome.{Outcome};
 
 use crate::note::{Note, push_number};
 use cert_check::CertFault;

@@ -1,8 +1,8 @@
 //! The program's sources and sinks over files and standard streams, as its words name them.
 ghost use Rattle.std.specs.Prelude.{◌≡◌, IfOk};
 ghost use Rattle.screen_io.specs.Target.{fresh};
-ghost use Rattle.screen_tool.specs.Command.{command_of, roles_of, texts};
-ghost use Rattle.screen_tool.specs.RealEnds.{ReadsFrom, WritesTo, source_of, sink_of};
+ghost use Rattle.screen_words.specs.Command.{command_of, roles_of, texts};
+ghost use Rattle.screen_words.specs.RealEnds.{ReadsFrom, WritesTo, source_of, sink_of};
 
 use crate::command::roles;
 use crate::ends::{EndUse, Inputs, Outputs};

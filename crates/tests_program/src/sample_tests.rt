@@ -1,8 +1,8 @@
 //! Whole runs of the command `sample`, over sinks in memory.
-use super::tests::{front, is_made, sink, source, words};
-use super::{EndUse, Inputs, Outputs, Status, roles, run};
+use crate::run_tests::{front, is_made, sink, source, words};
 use path_flow::PathSolver;
 use screen_io::{MemSink, Source};
+use screen_tool::{EndUse, Inputs, Outputs, Status, roles, run};
 use std::alloc::{AllocError, Global};
 use std::test::Fail;
 

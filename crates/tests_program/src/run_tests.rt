@@ -1,8 +1,7 @@
 //! Whole runs of the program over sources and sinks in memory.
-use super::{Command, EndUse, Inputs, Outputs, Status, roles, run};
 use path_flow::PathSolver;
 use screen_io::{MemSink, MemSource, Source};
-use screen_tool::command::command_from;
+use screen_tool::{EndUse, Inputs, Outputs, Status, roles, run};
 use std::alloc::{AllocError, Global};
 use std::process::Abort;
 use std::test::Fail;
@@ -689,7 +688,6 @@ fn a_note_that_fails_changes_no_status(rt: HostRuntime) -> Result<(), Fail> {
 fn ends_are_those_of_the_command(rt: HostRuntime) -> Result<(), Fail> {
     let alloc = rt.alloc();
     let global = words(alloc, &["global", "r", "d", "c"])?;
-    assert_eq!(rt; command_from(global.as_slice()), Some(Command::Global));
     let ends = roles(global.as_slice());
     assert_eq!(rt; ends.rules, EndUse::Word(1));
     assert_eq!(rt; ends.readings, EndUse::Word(2));

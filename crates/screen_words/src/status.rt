@@ -1,11 +1,12 @@
 //! How a run ends.
 ghost use Rattle.std.specs.Prelude.{◌≡◌};
-ghost use Rattle.screen_tool.specs.Ending.{code_of, status_of};
+ghost use Rattle.screen_words.specs.Ending.{code_of, status_of};
 
 use crate::step::StepFault;
 use bound_maker::MakeFault;
 use cert_check::CertFault;
 use global_repair::RepairFault;
+use online_repair::OnlineFault;
 use rule_file::RuleFault;
 use series_csv::{TableCause, TableFault};
 use std::alloc::AllocError;
@@ -19,9 +20,9 @@ pub enum Status {
     NoSeries,
     /// 2: the words ask for no command.
     Usage,
-    /// 3: the rules are refused.
+    /// 3: the rules are refused, or the online repair can't go by them.
     RulesRefused,
-    /// 4: the readings are refused, or the rules make too many bounds of them.
+    /// 4: the readings are refused, the rules make too many bounds of them, or their online repair can't go on.
     ReadingsRefused,
     /// 5: a read failed.
     ReadFault,
@@ -63,10 +64,34 @@ pub enum Outcome {
     Usage,
     /// The rules are refused.
     RulesRefused(RuleFault),
+    /// The online repair can't go by a rule: it is no speed rule, or names the sensor of a rule of a lower number.
+    NotOnline {
+        /// The number of the first such rule.
+        rule: u32,
+    },
     /// The readings are refused.
     ReadingsRefused(TableFault),
     /// The rules make more than 4,000,000 bounds of the readings.
     TooManyBounds,
+    /// The online repair holds as many rows as it may, and a row makes none of them ready.
+    WindowFull {
+        /// The row, counted from 1.
+        row: u32,
+    },
+    /// No whole step leads to a reading from the one before.
+    NoWholeStep {
+        /// The row, counted from 1.
+        row: u32,
+        /// The column, counted from 1.
+        col: u32,
+    },
+    /// A value that the online repair finds is more than 10^15 units in size.
+    LeavesRange {
+        /// The row, counted from 1.
+        row: u32,
+        /// The column, counted from 1.
+        col: u32,
+    },
     /// The certificate is refused.
     CertRefused(CertFault),
 }
@@ -93,10 +118,16 @@ impl Ending {
             Ending::Ended(Outcome::Done) => Status::Done,
             Ending::Ended(Outcome::NoSeries) => Status::NoSeries,
             Ending::Ended(Outcome::Usage) => Status::Usage,
-            Ending::Ended(Outcome::RulesRefused(_)) => Status::RulesRefused,
-            Ending::Ended(Outcome::ReadingsRefused(_) | Outcome::TooManyBounds) => {
-                Status::ReadingsRefused
+            Ending::Ended(Outcome::RulesRefused(_) | Outcome::NotOnline { .. }) => {
+                Status::RulesRefused
             }
+            Ending::Ended(
+                Outcome::ReadingsRefused(_)
+                | Outcome::TooManyBounds
+                | Outcome::WindowFull { .. }
+                | Outcome::NoWholeStep { .. }
+                | Outcome::LeavesRange { .. },
+            ) => Status::ReadingsRefused,
             Ending::Ended(Outcome::CertRefused(_)) => Status::CertRefused,
             Ending::ReadFault => Status::ReadFault,
             Ending::WriteFault => Status::WriteFault,
@@ -107,7 +138,7 @@ impl Ending {
 
 impl From<AllocError> for Ending {
     ghost use Rattle.std.specs.Prelude.{◌≡◌};
-    ghost use Rattle.screen_tool.specs.declared.status.Ending.TheVariants.{Memory};
+    ghost use Rattle.screen_words.specs.declared.status.Ending.TheVariants.{Memory};
 
     ghost from_gives = { λ _ ending. ending ≡ Memory };
 
@@ -118,7 +149,7 @@ impl From<AllocError> for Ending {
 
 impl From<StepFault<RuleFault>> for Ending {
     ghost use Rattle.std.specs.Prelude.{◌≡◌};
-    ghost use Rattle.screen_tool.specs.Step.{rules_ending};
+    ghost use Rattle.screen_words.specs.Faults.{rules_ending};
 
     ghost from_gives = { λ fault ending. ending ≡ rules_ending fault };
 
@@ -134,7 +165,7 @@ impl From<StepFault<RuleFault>> for Ending {
 
 impl From<StepFault<TableFault>> for Ending {
     ghost use Rattle.std.specs.Prelude.{◌≡◌};
-    ghost use Rattle.screen_tool.specs.Step.{readings_ending};
+    ghost use Rattle.screen_words.specs.Faults.{readings_ending};
 
     ghost from_gives = { λ fault ending. ending ≡ readings_ending fault };
 
@@ -152,7 +183,7 @@ impl From<StepFault<TableFault>> for Ending {
 
 impl From<StepFault<CertFault>> for Ending {
     ghost use Rattle.std.specs.Prelude.{◌≡◌};
-    ghost use Rattle.screen_tool.specs.Step.{cert_ending};
+    ghost use Rattle.screen_words.specs.Faults.{cert_ending};
 
     ghost from_gives = { λ fault ending. ending ≡ cert_ending fault };
 
@@ -168,7 +199,7 @@ impl From<StepFault<CertFault>> for Ending {
 
 impl From<MakeFault> for Ending {
     ghost use Rattle.std.specs.Prelude.{◌≡◌};
-    ghost use Rattle.screen_tool.specs.Step.{make_ending};
+    ghost use Rattle.screen_words.specs.Faults.{make_ending};
 
     ghost from_gives = { λ fault ending. ending ≡ make_ending fault };
 
@@ -182,7 +213,7 @@ impl From<MakeFault> for Ending {
 
 impl From<RepairFault> for Ending {
     ghost use Rattle.std.specs.Prelude.{◌≡◌};
-    ghost use Rattle.screen_tool.specs.Step.{repair_ending};
+    ghost use Rattle.screen_words.specs.Faults.{repair_ending};
 
     ghost from_gives = { λ fault ending. ending ≡ repair_ending fault };
 
@@ -190,6 +221,28 @@ impl From<RepairFault> for Ending {
         match fault {
             RepairFault::TooManyBounds => Ending::Ended(Outcome::TooManyBounds),
             RepairFault::Memory => Ending::Memory,
+        }
+    }
+}
+
+impl From<OnlineFault> for Ending {
+    ghost use Rattle.std.specs.Prelude.{◌≡◌};
+    ghost use Rattle.screen_words.specs.Faults.{online_ending};
+
+    ghost from_gives = { λ fault ending. ending ≡ online_ending fault };
+
+    fn from(fault: OnlineFault) -> Ending {
+        match fault {
+            OnlineFault::NotOnline { rule } => Ending::Ended(Outcome::NotOnline { rule }),
+            OnlineFault::Table(fault) => Ending::Ended(Outcome::ReadingsRefused(fault)),
+            OnlineFault::WindowFull { row } => Ending::Ended(Outcome::WindowFull { row }),
+            OnlineFault::NoWholeStep { row, col } => {
+                Ending::Ended(Outcome::NoWholeStep { row, col })
+            }
+            OnlineFault::LeavesRange { row, col } => {
+                Ending::Ended(Outcome::LeavesRange { row, col })
+            }
+            OnlineFault::Memory => Ending::Memory,
         }
     }
 }

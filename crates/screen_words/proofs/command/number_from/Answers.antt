@@ -1,6 +1,6 @@
 use Rattle.std.proofs.Common.{◌≡◌, ℕ, List, length, subst}
-use Rattle.screen_tool.specs.Command.{number_of}
-use Rattle.screen_tool.proofs.NumberWords.{from_value, some_of}
+use Rattle.screen_words.specs.Command.{number_of}
+use Rattle.screen_words.proofs.NumberWords.{from_value, some_of}
 use Rattle.screen_tool.proofs.command.number_from.Goals as goal
 
 pub returns : goal.returns

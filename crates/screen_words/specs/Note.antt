@@ -15,10 +15,10 @@ use Rattle.cert_format.specs.Line.{name_words}
 use Rattle.cert_format.specs.Words.{line_of_words}
 use Rattle.cert_check.specs.declared.fault.CertFault.{CertFault}
 use Rattle.cert_check.specs.declared.fault.CertFault.TheVariants as cert
-use Rattle.screen_tool.specs.declared.status.Ending.{Ending}
-use Rattle.screen_tool.specs.declared.status.Ending.TheVariants.{Ended, ReadFault, WriteFault, Memory}
-use Rattle.screen_tool.specs.declared.status.Outcome.{Outcome}
-use Rattle.screen_tool.specs.declared.status.Outcome.TheVariants.{Done, NoSeries, Usage, RulesRefused, ReadingsRefused, TooManyBounds, CertRefused}
+use Rattle.screen_words.specs.declared.status.Ending.{Ending}
+use Rattle.screen_words.specs.declared.status.Ending.TheVariants.{Ended, ReadFault, WriteFault, Memory}
+use Rattle.screen_words.specs.declared.status.Outcome.{Outcome}
+use Rattle.screen_words.specs.declared.status.Outcome.TheVariants.{Done, NoSeries, Usage, RulesRefused, NotOnline, ReadingsRefused, TooManyBounds, WindowFull, NoWholeStep, LeavesRange, CertRefused}
 
 abbrev pub rule_cause_name : RuleCause → List ℕ
 rule_cause_name rules.Syntax = codes "Syntax"
@@ -71,8 +71,13 @@ abbrev pub usage_text : List ℕ
 usage_text =
     codes "usage: screen global RULES READINGS CERT\n"
     ++ codes "       screen check RULES READINGS CERT\n"
+    ++ codes "       screen online RULES\n"
     ++ codes "       screen report RULES READINGS CERT\n"
     ++ codes "       screen sample ROWS SEED\n"
+
+-- why the rules are refused, with the number of the rule
+abbrev pub rules_text : List ℕ → ℕ → List ℕ
+rules_text name rule = codes "screen: rules refused: " ++ name ++ codes ", rule " ++ decimal rule ++ codes "\n"
 
 -- why the readings are refused, with the row and the column
 abbrev pub readings_text : List ℕ → ℕ → ℕ → List ℕ
@@ -100,9 +105,13 @@ abbrev pub outcome_text : Outcome → List ℕ
 outcome_text Done = []
 outcome_text NoSeries = codes "screen: no series obeys the rules\n"
 outcome_text Usage = usage_text
-outcome_text (RulesRefused fault) = codes "screen: rules refused: " ++ rule_cause_name fault.cause ++ codes ", rule " ++ decimal fault.rule ++ codes "\n"
+outcome_text (RulesRefused fault) = rules_text (rule_cause_name fault.cause) fault.rule
+outcome_text (NotOnline rule) = rules_text (codes "NotOnline") rule
 outcome_text (ReadingsRefused fault) = readings_text (table_cause_name fault.cause) fault.row fault.col
 outcome_text TooManyBounds = readings_text (codes "TooManyBounds") 0 0
+outcome_text (WindowFull row) = readings_text (codes "WindowFull") row 0
+outcome_text (NoWholeStep row col) = readings_text (codes "NoWholeStep") row col
+outcome_text (LeavesRange row col) = readings_text (codes "LeavesRange") row col
 outcome_text (CertRefused fault) = codes "screen: certificate refused: " ++ line_of_words (cert_fault_words fault) ++ codes "\n"
 
 abbrev pub note_text : Ending → List ℕ

@@ -1,0 +1,5 @@
+pub mod Command
+pub mod Ending
+pub mod Faults
+pub mod Note
+pub mod RealEnds
