@@ -22,15 +22,16 @@ use Rattle.series_rows.specs.declared.fault.TableFault.{TableFault}
 use Rattle.screen_words.specs.declared.command.Command.{Command}
 use Rattle.screen_words.specs.declared.command.Command.TheVariants.{Check, Global, Report, Sample}
 use Rattle.screen_words.specs.declared.ends.Inputs.{Inputs}
-use Rattle.screen_tool.specs.Answer.{Extent, Whole, Unread, Answer, AreFront, AreFronts}
+use Rattle.screen_steps.specs.Answer.{Extent, Whole, Unread, Answer, AreFront, AreFronts}
 use Rattle.screen_tool.specs.Answers.{Answers, AnswersBy, OneOutcome, OneText, RestsOnRead}
 use Rattle.screen_tool.specs.Check.{AnswersCheck, AnswersCheckBy, check_text}
-use Rattle.screen_tool.specs.Checked.{AfterCert, AnswersChecked, CertsAreOne, accepted_answer, cert_refused, cert_too_long}
-use Rattle.screen_tool.specs.Files.{RulesAreOne, ReadingsAreOne, AfterBounds, HasFewBounds, rules_too_long, rules_refused, readings_too_long, readings_refused, too_many_bounds}
+use Rattle.screen_tool.specs.Checked.{AfterCert, AnswersChecked, accepted_answer, cert_refused, cert_too_long}
+use Rattle.screen_steps.specs.Files.{CertsAreOne}
+use Rattle.screen_steps.specs.Files.{RulesAreOne, ReadingsAreOne, AfterBounds, HasFewBounds, rules_too_long, rules_refused, readings_too_long, readings_refused, too_many_bounds}
 use Rattle.screen_tool.specs.Global.{AnswersGlobal, AnswersGlobalBy, AnswersTableBy, AnswersBoundsBy, answer_of}
 use Rattle.screen_tool.specs.Sample.{summary_of, unread}
-use Rattle.screen_tool.proofs.AfterFile.{after_accepted, after_follows, after_has, after_one, after_rests}
-use Rattle.screen_tool.proofs.BothFiles.{begun_not_unread, both_accepted, both_follow, both_have, both_one, both_rest, bounds_few, bounds_follow, bounds_have, bounds_one, whole_not_unread}
+use Rattle.screen_steps.proofs.AfterFile.{after_accepted, after_follows, after_has, after_one, after_rests}
+use Rattle.screen_steps.proofs.BothFiles.{begun_not_unread, both_accepted, both_follow, both_have, both_one, both_rest, bounds_few, bounds_follow, bounds_have, bounds_one, whole_not_unread}
 use Rattle.screen_tool.proofs.SampleLaws.{sample_any, sample_one, summed_out, summed_outcome}
 
 -- ---- what every answer of `global` has

@@ -19,20 +19,21 @@ use Rattle.series_rows.specs.declared.fault.TableFault.{TableFault}
 use Rattle.screen_io.specs.Faults.{Rose}
 use Rattle.screen_tool.specs.declared.checked.Checked.{Checked}
 use Rattle.screen_words.specs.declared.ends.Inputs.{Inputs}
-use Rattle.screen_tool.specs.declared.reply.Reply.{Reply}
+use Rattle.screen_steps.specs.declared.reply.Reply.{Reply}
 use Rattle.screen_words.specs.declared.status.Ending.{Ending}
 use Rattle.screen_words.specs.declared.status.Ending.TheVariants as ending
 use Rattle.screen_words.specs.declared.status.Outcome.TheVariants.{Done, Usage}
 use Rattle.screen_words.specs.declared.step.StepFault.{StepFault}
 use Rattle.screen_words.specs.declared.step.StepFault.TheVariants as fault
-use Rattle.screen_tool.specs.Answer.{Whole, Answer}
+use Rattle.screen_steps.specs.Answer.{Whole, Answer}
 use Rattle.screen_tool.specs.Checked.{AfterCert, AnswersChecked, accepted_answer, cert_refused, cert_too_long}
-use Rattle.screen_tool.specs.Files.{AfterBounds, HasFewBounds, RulesAreOne, ReadingsAreOne, too_many_bounds}
-use Rattle.screen_tool.specs.Performance.{IsRead, IsAnswered, Stays, Stops}
-use Rattle.screen_tool.specs.Step.{EndsUnchecked, Ends, IsChecked, IsReplyOf, IsStep, IsStopped, Replies}
+use Rattle.screen_steps.specs.Files.{AfterBounds, HasFewBounds, RulesAreOne, ReadingsAreOne, too_many_bounds}
+use Rattle.screen_steps.specs.Performance.{IsRead, IsAnswered, Stays, Stops}
+use Rattle.screen_steps.specs.Step.{Ends, IsReplyOf, IsStep, IsStopped, Replies}
+use Rattle.screen_tool.specs.Checking.{EndsUnchecked, IsChecked}
 use Rattle.screen_words.specs.Faults.{cert_ending, make_ending, readings_ending, rules_ending}
 use Rattle.screen_tool.proofs.AnswerLaws.{checked_wholly, needs_cert}
-use Rattle.screen_tool.proofs.Steps.{one_more, readings_end, rules_end, texts_end}
+use Rattle.screen_steps.proofs.Reading.{one_more, readings_end, rules_end, texts_end}
 
 abbrev Any : Rules → TableView → Accepted → Type 0
 Any rules table accepted = Unit {0}

@@ -33,16 +33,16 @@ use Rattle.screen_words.specs.declared.status.Ending.TheVariants as ending
 use Rattle.screen_words.specs.declared.status.Outcome.TheVariants as outcome
 use Rattle.screen_words.specs.declared.status.Status.{Status}
 use Rattle.screen_words.specs.declared.status.Status.TheVariants as status
-use Rattle.screen_tool.specs.Answer.{Answer}
+use Rattle.screen_steps.specs.Answer.{Answer}
 use Rattle.screen_tool.specs.Certificates.{cert_of, repair_cert}
 use Rattle.screen_words.specs.Command.{roles_of}
 use Rattle.screen_words.specs.Ending.{outcome_status, status_of}
-use Rattle.screen_tool.specs.Files.{RulesAreOne, ReadingsAreOne}
+use Rattle.screen_steps.specs.Files.{RulesAreOne, ReadingsAreOne}
 use Rattle.screen_tool.specs.Global.{AnswersGlobal, AnswersGlobalBy, AnswersTableBy, AnswersBoundsBy, IsFoundFor, answer_of}
 use Rattle.screen_tool.specs.Headline.{CountsReadFault, CountsWriteFault, Headline, IsApartFromFaults, ShowsCycle, ShowsRepair, SomeObeys, WritesCycle, WritesRepair}
-use Rattle.screen_tool.specs.Performance.{IsAnswered, LeavesSinks, IsWritten, AreWritten, IsCut, AreCut, Performs, AreTold}
+use Rattle.screen_steps.specs.Performance.{IsAnswered, LeavesSinks, IsWritten, AreWritten, IsCut, AreCut, Performs, AreTold}
 use Rattle.screen_tool.proofs.AnswerLaws.{bounds_answer, global_any, global_has, global_rests}
-use Rattle.screen_tool.proofs.BothFiles.{both_accepted}
+use Rattle.screen_steps.proofs.BothFiles.{both_accepted}
 use Rattle.screen_tool.proofs.Due.{cert_unread, front, readings_unread, rules_unread}
 
 -- ---- what is found is what the headline says

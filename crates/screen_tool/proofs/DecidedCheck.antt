@@ -19,13 +19,14 @@ use Rattle.screen_words.specs.declared.status.Ending.TheVariants as ending
 use Rattle.screen_words.specs.declared.status.Outcome.TheVariants as outcome
 use Rattle.screen_words.specs.declared.status.Status.{Status}
 use Rattle.screen_words.specs.declared.status.Status.TheVariants as status
-use Rattle.screen_tool.specs.Answer.{Answer}
-use Rattle.screen_tool.specs.Checked.{AfterCert, AnswersChecked, CertsAreOne, accepted_answer, cert_refused, cert_too_long}
+use Rattle.screen_steps.specs.Answer.{Answer}
+use Rattle.screen_tool.specs.Checked.{AfterCert, AnswersChecked, accepted_answer, cert_refused, cert_too_long}
+use Rattle.screen_steps.specs.Files.{CertsAreOne}
 use Rattle.screen_words.specs.Ending.{IsUnless, outcome_status, status_of}
-use Rattle.screen_tool.specs.Files.{RulesAreOne, ReadingsAreOne, HasFewBounds}
+use Rattle.screen_steps.specs.Files.{RulesAreOne, ReadingsAreOne, HasFewBounds}
 use Rattle.screen_tool.specs.HeadlineCheck.{CountsFault, DecidesCheck, HeadlineCheck, WritesAccepted}
-use Rattle.screen_tool.specs.Performance.{AreCut, AreWritten, IsAnswered, IsCut, IsWritten, Performs, Stops}
-use Rattle.screen_tool.proofs.AfterFile.{more_and_not}
+use Rattle.screen_steps.specs.Performance.{AreCut, AreWritten, IsAnswered, IsCut, IsWritten, Performs, Stops}
+use Rattle.screen_steps.proofs.AfterFile.{more_and_not}
 use Rattle.screen_tool.proofs.AnswerLaws.{checked_any, checked_cert, checked_has, checked_rests}
 use Rattle.screen_tool.proofs.Decided.{gained, is_done, not_written, rules_short, table_short, written_counted}
 use Rattle.screen_tool.proofs.Due.{front_read}

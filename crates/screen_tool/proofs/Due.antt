@@ -10,12 +10,12 @@ use Rattle.screen_words.specs.declared.ends.Inputs.{Inputs}
 use Rattle.screen_words.specs.declared.ends.Outputs.{Outputs}
 use Rattle.screen_words.specs.declared.status.Ending.{Ending}
 use Rattle.screen_words.specs.declared.status.Ending.TheVariants as ending
-use Rattle.screen_tool.specs.Answer.{Extent, Whole, Begun, Unread, Answer, AreFront}
+use Rattle.screen_steps.specs.Answer.{Extent, Whole, Begun, Unread, Answer, AreFront}
 use Rattle.screen_tool.specs.Answers.{Answers, OneOutcome, RestsOnRead}
 use Rattle.screen_words.specs.Command.{roles_of}
 use Rattle.screen_words.specs.Ending.{outcome_status, status_of}
 use Rattle.screen_tool.specs.Check.{check_text}
-use Rattle.screen_tool.specs.Performance.{IsRead, IsAnswered, IsCut, IsWritten, LeavesUnused, Performs, AreTold, IsDue}
+use Rattle.screen_steps.specs.Performance.{IsRead, IsAnswered, IsCut, IsWritten, LeavesUnused, Performs, AreTold, IsDue}
 use Rattle.screen_tool.proofs.AnswerLaws.{checked_has, found_reads, global_has}
 use Rattle.screen_tool.proofs.SampleLaws.{sample_cert}
 

@@ -1,6 +1,4 @@
-pub mod AfterFile
 pub mod AnswerLaws
-pub mod BothFiles
 pub mod CheckSteps
 pub mod Priced
 pub mod Changed

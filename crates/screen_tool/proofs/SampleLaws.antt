@@ -13,10 +13,10 @@ use Rattle.series_csv.specs.File.{TableView}
 use Rattle.series_csv.specs.Readings.{values}
 use Rattle.series_rows.specs.declared.fault.TableFault.{TableFault}
 use Rattle.screen_words.specs.declared.status.Outcome.TheVariants as outcome
-use Rattle.screen_tool.specs.Answer.{Answer}
-use Rattle.screen_tool.specs.Files.{RulesAreOne, ReadingsAreOne}
+use Rattle.screen_steps.specs.Answer.{Answer}
+use Rattle.screen_steps.specs.Files.{RulesAreOne, ReadingsAreOne}
 use Rattle.screen_tool.specs.Sample.{AfterSampleReadings, AfterSampleRules, AnswersSample, AnswersSampleBy, SumsUp, changed, summary_of, summary_text, unread}
-use Rattle.screen_tool.proofs.BothFiles.{bounds_follow, bounds_one}
+use Rattle.screen_steps.proofs.BothFiles.{bounds_follow, bounds_one}
 
 abbrev Any : Problem → Found → Type 0
 Any problem outcome = Unit {0}

@@ -22,19 +22,19 @@ use Rattle.screen_words.specs.declared.command.Command.{Command}
 use Rattle.screen_words.specs.declared.command.Command.TheVariants.{Check, Global, Report, Sample}
 use Rattle.screen_words.specs.declared.ends.Inputs.{Inputs}
 use Rattle.screen_words.specs.declared.ends.Outputs.{Outputs}
-use Rattle.screen_tool.specs.declared.reply.Reply.{Reply}
+use Rattle.screen_steps.specs.declared.reply.Reply.{Reply}
 use Rattle.screen_words.specs.declared.status.Ending.{Ending}
 use Rattle.screen_words.specs.declared.status.Ending.TheVariants as ending
 use Rattle.screen_words.specs.declared.status.Outcome.TheVariants.{Done}
 use Rattle.screen_words.specs.declared.step.StepFault.{StepFault}
 use Rattle.screen_words.specs.declared.step.StepFault.TheVariants as fault
-use Rattle.screen_tool.specs.Answer.{Answer}
+use Rattle.screen_steps.specs.Answer.{Answer}
 use Rattle.screen_tool.specs.Answers.{Answers, AnswersBy}
-use Rattle.screen_tool.specs.Files.{readings_refused, rules_refused, too_many_bounds}
+use Rattle.screen_steps.specs.Files.{readings_refused, rules_refused, too_many_bounds}
 use Rattle.screen_words.specs.Command.{command_of, is_word, number_of, sample_of}
-use Rattle.screen_tool.specs.Performance.{AreRead, Performs}
+use Rattle.screen_steps.specs.Performance.{AreRead, Performs}
 use Rattle.screen_tool.specs.Sample.{AnswersSampleBy, HasLimits, WritesSummary, summary_of, unread}
-use Rattle.screen_tool.specs.Step.{Comes, Ends, IsFound, IsReplyOf, Replies}
+use Rattle.screen_steps.specs.Step.{Comes, Ends, IsFound, IsReplyOf, Replies}
 use Rattle.screen_words.specs.Faults.{readings_ending, repair_ending, rules_ending}
 use Rattle.screen_tool.proofs.Decided.{gained}
 use Rattle.screen_tool.proofs.SampleLaws.{sample_any, sample_text}

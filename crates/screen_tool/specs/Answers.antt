@@ -9,9 +9,9 @@ use Rattle.screen_words.specs.declared.command.Command.{Command}
 use Rattle.screen_words.specs.declared.command.Command.TheVariants.{Check, Global, Report, Sample}
 use Rattle.screen_words.specs.declared.ends.Inputs.{Inputs}
 use Rattle.screen_words.specs.declared.status.Outcome.TheVariants.{Usage}
-use Rattle.screen_tool.specs.Answer.{Unread, Answer, AreFronts}
+use Rattle.screen_steps.specs.Answer.{Unread, Answer, AreFronts}
 use Rattle.screen_tool.specs.Check.{AnswersCheckBy}
-use Rattle.screen_tool.specs.Files.{without_texts}
+use Rattle.screen_steps.specs.Files.{without_texts}
 use Rattle.screen_tool.specs.Global.{AnswersGlobalBy}
 use Rattle.screen_tool.specs.Report.{AnswersReportBy}
 use Rattle.screen_tool.specs.Sample.{AnswersSampleBy}

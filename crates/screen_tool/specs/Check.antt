@@ -6,7 +6,7 @@ use Rattle.cert_check.specs.declared.accepted.Accepted.TheVariants.{Repair, NoSe
 use Rattle.rule_file.specs.declared.rules.Rules.{Rules}
 use Rattle.series_csv.specs.File.{TableView}
 use Rattle.screen_words.specs.declared.ends.Inputs.{Inputs}
-use Rattle.screen_tool.specs.Answer.{Answer}
+use Rattle.screen_steps.specs.Answer.{Answer}
 use Rattle.screen_tool.specs.Checked.{AnswersChecked}
 
 -- which claim is accepted, and the total of a repair in units

@@ -9,8 +9,8 @@ use Rattle.rule_file.specs.declared.rules.Rules.{Rules}
 use Rattle.series_csv.specs.File.{TableView}
 use Rattle.screen_words.specs.declared.ends.Inputs.{Inputs}
 use Rattle.screen_words.specs.declared.status.Outcome.TheVariants.{Done, CertRefused}
-use Rattle.screen_tool.specs.Answer.{Extent, Whole, Begun, Answer, AfterFile, AreOne}
-use Rattle.screen_tool.specs.Files.{AfterBoth, AfterBounds}
+use Rattle.screen_steps.specs.Answer.{Extent, Whole, Begun, Answer, AfterFile, AreOne}
+use Rattle.screen_steps.specs.Files.{AfterBoth, AfterBounds}
 
 -- The answer that writes nothing, where both files are whole and the certificate is read so far.
 abbrev pub cert_refused_at : Extent → CertFault → Answer
@@ -35,10 +35,6 @@ accepted_answer text = record {
   cert = None;
   out = Some text;
 }
-
--- A certificate is judged in one way only.
-abbrev pub CertsAreOne : Type 0
-CertsAreOne = (rules : Rules) (table : TableView) → AreOne (Judges rules table)
 
 -- `text` is what the command writes of what a certificate is accepted as, and `Holds` what is asked of that beside.
 module _ (Holds : Rules → TableView → Accepted → Type 0) (text : Rules → TableView → Accepted → List ℕ) where

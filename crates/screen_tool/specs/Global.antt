@@ -12,9 +12,9 @@ use Rattle.series_csv.specs.File.{TableView}
 use Rattle.series_csv.specs.Text.{table_text}
 use Rattle.screen_words.specs.declared.ends.Inputs.{Inputs}
 use Rattle.screen_words.specs.declared.status.Outcome.TheVariants.{Done, NoSeries}
-use Rattle.screen_tool.specs.Answer.{Whole, Unread, Answer}
+use Rattle.screen_steps.specs.Answer.{Whole, Unread, Answer}
 use Rattle.screen_tool.specs.Certificates.{cert_of, claim_of}
-use Rattle.screen_tool.specs.Files.{AfterBoth, AfterBounds}
+use Rattle.screen_steps.specs.Files.{AfterBoth, AfterBounds}
 
 -- It is the repair under all bounds, or a cycle that forbids every series; the names in it are of bounds that are made; and
 -- its certificate has a text, which is accepted as the certificate of this.

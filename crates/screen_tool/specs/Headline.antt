@@ -27,7 +27,7 @@ use Rattle.screen_words.specs.declared.status.Status.{Status}
 use Rattle.screen_words.specs.declared.status.Status.TheVariants.{Done, NoSeries, WriteFault}
 use Rattle.screen_tool.specs.Certificates.{repair_cert}
 use Rattle.screen_words.specs.Ending.{IsUnless}
-use Rattle.screen_tool.specs.Files.{HasFewBounds}
+use Rattle.screen_steps.specs.Files.{HasFewBounds}
 
 -- some series obeys every bound of the rules that has no price; or none does
 abbrev pub SomeObeys : Rules → TableView → Type 0

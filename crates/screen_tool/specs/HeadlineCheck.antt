@@ -13,7 +13,7 @@ use Rattle.screen_words.specs.declared.ends.Outputs.{Outputs}
 use Rattle.screen_words.specs.declared.status.Status.{Status}
 use Rattle.screen_words.specs.declared.status.Status.TheVariants.{Done, CertRefused, WriteFault}
 use Rattle.screen_words.specs.Ending.{IsUnless}
-use Rattle.screen_tool.specs.Files.{HasFewBounds}
+use Rattle.screen_steps.specs.Files.{HasFewBounds}
 
 -- a source counted a fault
 abbrev pub CountsFault : {S : Type 0} → (S → ℕ) → Inputs S → Inputs S → Type 0

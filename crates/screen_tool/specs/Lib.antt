@@ -1,13 +1,10 @@
-pub mod Answer
 pub mod Answers
 pub mod Certificates
 pub mod Check
 pub mod Checked
-pub mod Files
 pub mod Global
 pub mod Headline
 pub mod HeadlineCheck
-pub mod Performance
 pub mod Report
 pub mod Sample
-pub mod Step
+pub mod Checking

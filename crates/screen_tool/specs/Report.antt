@@ -5,7 +5,7 @@ use Rattle.repair_report.specs.Report.{report_text}
 use Rattle.rule_file.specs.declared.rules.Rules.{Rules}
 use Rattle.series_csv.specs.File.{TableView}
 use Rattle.screen_words.specs.declared.ends.Inputs.{Inputs}
-use Rattle.screen_tool.specs.Answer.{Answer}
+use Rattle.screen_steps.specs.Answer.{Answer}
 use Rattle.screen_tool.specs.Checked.{AnswersChecked}
 
 abbrev pub AnswersReportBy : (Rules → TableView → Accepted → Type 0) → Inputs (List ℕ) → Answer → Type 0

@@ -20,8 +20,8 @@ use Rattle.sample_maker.specs.declared.make.TheConstants.{MOST_ROWS, MOST_SEED}
 use Rattle.screen_words.specs.declared.command.Command.{Command}
 use Rattle.screen_words.specs.declared.command.Command.TheVariants.{Check, Global, Report, Sample}
 use Rattle.screen_words.specs.declared.ends.Outputs.{Outputs}
-use Rattle.screen_tool.specs.Answer.{Unread, Answer}
-use Rattle.screen_tool.specs.Files.{AfterBounds, readings_refused, rules_refused, without_texts}
+use Rattle.screen_steps.specs.Answer.{Unread, Answer}
+use Rattle.screen_steps.specs.Files.{AfterBounds, readings_refused, rules_refused, without_texts}
 
 -- one, if the value is another one
 abbrev pub one_if_changed : ℤ → ℤ → ℕ

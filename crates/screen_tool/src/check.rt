@@ -3,16 +3,14 @@ ghost use Rattle.std.specs.Prelude.{◌≡◌, ◌≢◌, ◌++◌, Err, IfOk, M
 ghost use Rattle.std.specs.Fmt.{signed_decimal};
 ghost use Rattle.cert_check.specs.Laws.{IsTrueClaim};
 ghost use Rattle.screen_tool.specs.Check.{AnswersCheck, AnswersCheckBy, check_text};
-ghost use Rattle.screen_tool.specs.Step.{Ends, Replies};
+ghost use Rattle.screen_steps.specs.Step.{Ends, Replies};
 
 use crate::checked::check_files;
-use screen_words::Inputs;
-use crate::laws::files_are_one;
-use crate::reply::Reply;
-use screen_words::{Ending, Outcome};
 use cert_check::Accepted;
 use itoa::Buffer;
 use screen_io::Source;
+use screen_steps::{Reply, files_are_one};
+use screen_words::{Ending, Inputs, Outcome};
 use std::alloc::{AllocError, Global};
 
 /// Reads the three files, and makes the line that tells what is accepted.

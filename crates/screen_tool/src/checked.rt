@@ -1,15 +1,13 @@
 //! The steps of the commands that check a certificate.
 ghost use Rattle.std.specs.Prelude.{◌≡◌, ◌≢◌, Err, MatchResult};
-ghost use Rattle.screen_tool.specs.Step.{EndsUnchecked, IsChecked};
+ghost use Rattle.screen_tool.specs.Checking.{EndsUnchecked, IsChecked};
 
-use screen_words::Inputs;
-use crate::files::{accepted_from, rules_from, table_from};
-use crate::laws::files_are_one;
-use screen_words::{Ending, Outcome};
 use bound_maker::make;
 use cert_check::{Accepted, accepted_is_true};
 use rule_file::Rules;
 use screen_io::Source;
+use screen_steps::{accepted_from, files_are_one, rules_from, table_from};
+use screen_words::{Ending, Inputs, Outcome};
 use series_csv::Table;
 use std::alloc::Global;
 

@@ -5,14 +5,9 @@ ghost use Rattle.rule_file.specs.declared.rules.Rules.{Rules};
 ghost use Rattle.series_csv.specs.File.{TableView};
 ghost use Rattle.screen_tool.specs.Global.{AnswersGlobal, AnswersGlobalBy, AnswersTableBy, IsFoundFor, answer_of};
 ghost use Rattle.screen_tool.specs.Headline.{CountsReadFault};
-ghost use Rattle.screen_tool.specs.Step.{Comes, Ends, IsReplyOf, Replies};
+ghost use Rattle.screen_steps.specs.Step.{Comes, Ends, IsReplyOf, Replies};
 
 use crate::cert::cert_of;
-use screen_words::Inputs;
-use crate::files::{rules_from, table_from};
-use crate::laws::files_are_one;
-use crate::reply::Reply;
-use screen_words::{Ending, Outcome};
 use bound_maker::{names_can_be_written, problem_is_sound};
 use cert_check::{shown_is_short, truth_is_accepted};
 use cert_format::write_cert;
@@ -20,6 +15,8 @@ use flow_core::Solver;
 use global_repair::{Outcome as Found, repair};
 use rule_file::Rules;
 use screen_io::Source;
+use screen_steps::{Reply, files_are_one, rules_from, table_from};
+use screen_words::{Ending, Inputs, Outcome};
 use series_csv::{Table, table_text};
 use std::alloc::{AllocError, Global};
 

@@ -1,18 +1,7 @@
 //! Laws of what the commands answer.
 ghost use Rattle.screen_tool.specs.Answers.{OneOutcome, OneText, RestsOnRead};
-ghost use Rattle.screen_tool.specs.Checked.{CertsAreOne};
-ghost use Rattle.screen_tool.specs.Files.{RulesAreOne, ReadingsAreOne};
 
-/// The rules are read as one thing only, and so are the readings by any rules, and a certificate by any rules and table.
-pub(crate) fn files_are_one()
-    ensures rules { RulesAreOne }
-    ensures readings { ReadingsAreOne }
-    ensures certs { CertsAreOne }
-{
-    rule_file::one_answer();
-    series_csv::one_answer();
-    cert_check::one_answer();
-}
+use screen_steps::files_are_one;
 
 /// A command comes to one outcome only, whatever its sources hold and whatever text it may choose.
 pub fn one_outcome()

@@ -7,18 +7,14 @@
 mod cert;
 mod check;
 mod checked;
-mod files;
 mod global;
 mod laws;
-mod online;
 mod prices;
 mod program;
-mod reply;
 mod report;
 mod sample;
 
 pub use laws::{one_outcome, one_text, rests_on_read};
-pub use online::{MOST_BYTES, PIECE};
 pub use program::run;
 pub use screen_words::{
     Command, EndUse, Ending, Inputs, Outcome, Outputs, Roles, Status, real_ends, roles,

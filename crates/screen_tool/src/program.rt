@@ -2,7 +2,7 @@
 ghost use Rattle.std.specs.Prelude.{◌≡◌, ◌≢◌, ◌↔◌, ℕ, Some, None, Err, IfOk, MatchResult};
 ghost use Rattle.cert_check.specs.Laws.{IsTrueClaim};
 ghost use Rattle.repair_report.specs.Report.{report_text};
-ghost use Rattle.screen_tool.specs.Answer.{Answer};
+ghost use Rattle.screen_steps.specs.Answer.{Answer};
 ghost use Rattle.least_cost.specs.Answer.{CountsChanges};
 ghost use Rattle.screen_tool.specs.Answers.{Answers, AnswersBy};
 ghost use Rattle.screen_words.specs.Command.{command_of, roles_of, texts};
@@ -11,23 +11,21 @@ ghost use Rattle.screen_tool.specs.Check.{check_text};
 ghost use Rattle.screen_tool.specs.Headline.{CountsReadFault, Headline};
 ghost use Rattle.screen_tool.specs.HeadlineCheck.{HeadlineCheck};
 ghost use Rattle.screen_words.specs.Note.{note_text};
-ghost use Rattle.screen_tool.specs.Performance.{AreCut, AreWritten, IsDue, IsNoted, LeavesUnused, Performs};
+ghost use Rattle.screen_steps.specs.Performance.{AreCut, AreWritten, IsDue, IsNoted, LeavesUnused, Performs};
 ghost use Rattle.screen_tool.specs.Sample.{HasLimits, WritesSummary};
-ghost use Rattle.screen_tool.specs.Step.{Ends, IsReplyOf, Replies};
+ghost use Rattle.screen_steps.specs.Step.{Ends, IsReplyOf, Replies};
 ghost use Rattle.screen_words.specs.declared.ends.EndUse.TheVariants.{Nothing};
 
 use crate::check::check;
-use screen_words::{Command, command_from};
-use screen_words::{Inputs, Outputs};
 use crate::global::global;
-use crate::laws::{files_are_one, one_outcome, rests_on_read};
-use screen_words::note_of;
-use crate::reply::{Reply, write_text};
+use crate::laws::{one_outcome, rests_on_read};
 use crate::report::report;
 use crate::sample::sample;
-use screen_words::{Ending, Outcome, Status};
 use flow_core::Solver;
 use screen_io::{Failed, Sink, Source, write_all_of};
+use screen_online::online;
+use screen_steps::{Reply, files_are_one, write_text};
+use screen_words::{Command, Ending, Inputs, Outcome, Outputs, Status, command_from, note_of};
 use std::alloc::Global;
 
 /// Does what the words ask for. They do not hold the program's name.
@@ -111,6 +109,9 @@ fn ending_of<S: Source, K: Sink, V: Solver>(
     ensures none_leaves { command ≡ None → solver.new ≡ solver.old }
     ensures most_stays { V.most solver.new ≡ V.most solver.old }
 {
+    if command == Some(Command::Online) {
+        return online(alloc, ins, outs);
+    }
     match reply_of(alloc, command, ins, solver) {
         Ok(reply) => match write_reply(&reply, outs) {
             Ok(()) => Ending::Ended(reply.outcome),
@@ -147,7 +148,7 @@ fn reply_of<S: Source, V: Solver>(
         Some(Command::Check) => check(alloc, ins),
         Some(Command::Report) => report(alloc, ins),
         Some(Command::Sample { rows, seed }) => sample(alloc, rows, seed, solver),
-        None => Err(Ending::Ended(Outcome::Usage)),
+        Some(Command::Online) | None => Err(Ending::Ended(Outcome::Usage)),
     }
 }
 

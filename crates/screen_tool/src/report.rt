@@ -2,15 +2,13 @@
 ghost use Rattle.std.specs.Prelude.{◌≡◌, ◌≢◌, Err, IfOk, MatchResult};
 ghost use Rattle.cert_check.specs.Laws.{IsTrueClaim};
 ghost use Rattle.screen_tool.specs.Report.{AnswersReport, AnswersReportBy};
-ghost use Rattle.screen_tool.specs.Step.{Ends, Replies};
+ghost use Rattle.screen_steps.specs.Step.{Ends, Replies};
 
 use crate::checked::check_files;
-use screen_words::Inputs;
-use crate::laws::files_are_one;
-use crate::reply::Reply;
-use screen_words::{Ending, Outcome};
 use repair_report::report_text;
 use screen_io::Source;
+use screen_steps::{Reply, files_are_one};
+use screen_words::{Ending, Inputs, Outcome};
 use std::alloc::Global;
 
 /// Reads the three files, and makes the report.

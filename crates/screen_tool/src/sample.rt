@@ -7,16 +7,15 @@ ghost use Rattle.sample_maker.specs.declared.make.TheConstants.{MOST_ROWS, MOST_
 ghost use Rattle.screen_model.specs.declared.limits.TheConstants.{MOST_READINGS};
 ghost use Rattle.series_csv.specs.Readings.{values};
 ghost use Rattle.screen_tool.specs.Sample.{AnswersSampleBy, changed, one_if_changed, summary_of, summary_text};
-ghost use Rattle.screen_tool.specs.Step.{Comes, IsReplyOf};
+ghost use Rattle.screen_steps.specs.Step.{Comes, IsReplyOf};
 
-use crate::files::{rules_of, table_of};
-use crate::reply::Reply;
-use screen_words::{Ending, Outcome};
 use flow_core::Solver;
 use global_repair::{Outcome as Found, repair};
 use itoa::Buffer;
 use rule_file::Rules;
 use sample_maker::sample as make_sample;
+use screen_steps::{Reply, rules_of, table_of};
+use screen_words::{Ending, Outcome};
 use series_csv::Table;
 use std::alloc::{AllocError, Global};
 

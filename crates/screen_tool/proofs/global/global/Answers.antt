@@ -3,10 +3,11 @@ use Rattle.std.proofs.lemmas.Result.{err_from_is_err_and}
 use Rattle.least_cost.specs.Answer.{CountsChanges}
 use Rattle.rule_file.specs.declared.rules.Rules.{Rules}
 use Rattle.series_csv.specs.File.{TableView}
-use Rattle.screen_tool.specs.Answer.{Answer}
+use Rattle.screen_steps.specs.Answer.{Answer}
 use Rattle.screen_tool.specs.Global.{AnswersTableBy}
 use Rattle.screen_tool.proofs.AnswerLaws.{global_wholly}
-use Rattle.screen_tool.proofs.Steps.{rules_end, readings_end, table_comes, readings_no_done, readings_no_usage, readings_counted, err_one}
+use Rattle.screen_tool.proofs.Steps.{table_comes}
+use Rattle.screen_steps.proofs.Reading.{rules_end, readings_end, readings_no_done, readings_no_usage, readings_counted, err_one}
 use Rattle.screen_tool.proofs.global.global.Goals as goal
 
 abbrev Follows : Rules → TableView → List ℕ → Answer → Type 0

@@ -5,7 +5,7 @@ use Rattle.screen_words.specs.declared.command.Command.{Command}
 use Rattle.screen_words.specs.declared.command.Command.TheVariants.{Check, Global, Report, Sample}
 use Rattle.screen_tool.specs.Answers.{Answers, AnswersBy}
 use Rattle.screen_tool.specs.Sample.{HasLimits}
-use Rattle.screen_tool.specs.Step.{Ends, Replies}
+use Rattle.screen_steps.specs.Step.{Ends, Replies}
 use Rattle.screen_tool.proofs.SampleSteps.{sample_comes}
 use Rattle.screen_tool.proofs.Steps.{usage_ends}
 use Rattle.screen_tool.proofs.program.reply_of.Goals as goal

@@ -11,13 +11,13 @@ use Rattle.screen_tool.specs.Check.{check_text}
 use Rattle.screen_words.specs.Command.{roles_of, texts}
 use Rattle.screen_words.specs.Ending.{status_of}
 use Rattle.screen_words.specs.Note.{note_text}
-use Rattle.screen_tool.specs.Performance.{IsDue, Performs}
+use Rattle.screen_steps.specs.Performance.{IsDue, Performs}
 use Rattle.screen_tool.specs.Sample.{HasLimits}
 use Rattle.screen_tool.proofs.Decided.{headline, is_done}
 use Rattle.screen_tool.proofs.DecidedCheck.{headline_check}
 use Rattle.screen_tool.proofs.Due.{due}
 use Rattle.screen_tool.proofs.SampleSteps.{words_limits, writes_summary}
-use Rattle.screen_tool.proofs.Steps.{noted, performs_noted}
+use Rattle.screen_steps.proofs.Reading.{noted, performs_noted}
 use Rattle.screen_tool.proofs.program.run.Goals as goal
 
 pub returns-clause-performs : goal.returns-clause-performs

@@ -1,7 +1,7 @@
 -- What is answered after a file was read: in one way only, and by what was read of it.
 use Rattle.std.proofs.Common.{◌≡◌, inl, inr, ℕ, ◌<◌, ◌≤◌, ◌+◌, List, length, Result, Ok, Err, MatchResult, ap, sym, subst, ◌∙◌, arith}
 use Rattle.std.proofs.lemmas.List.{length-append}
-use Rattle.screen_tool.specs.Answer.{Extent, Whole, Begun, Answer, AfterFile, AreFront, AreOne}
+use Rattle.screen_steps.specs.Answer.{Extent, Whole, Begun, Answer, AfterFile, AreFront, AreOne}
 
 pub more_and_not : (n m : ℕ) → n < m → m ≤ n → ⊥
 more_and_not n m p q = omega (arith, p, q)

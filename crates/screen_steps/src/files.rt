@@ -8,21 +8,18 @@ ghost use Rattle.rule_file.specs.declared.read.TheConstants.{LONGEST as longest_
 ghost use Rattle.rule_file.specs.File.{ReadsFile};
 ghost use Rattle.series_csv.specs.declared.table.TheConstants.{LONGEST as longest_readings};
 ghost use Rattle.series_csv.specs.File.{ReadsTable};
-ghost use Rattle.screen_tool.specs.Step.{IsFound, IsStep, WasRead};
+ghost use Rattle.screen_steps.specs.Step.{IsFound, IsStep, WasRead};
 
-use screen_words::StepFault;
 use cert_check::{Accepted, CertFault, check};
 use rule_file::{RuleCause, RuleFault, Rules, read_rules};
 use screen_io::{ReadFault, Source, read_all};
 use screen_model::BoundList;
+use screen_words::StepFault;
 use series_csv::{Table, TableCause, TableFault, read_table};
 use std::alloc::Global;
 
 /// Reads the rules.
-pub(crate) fn rules_from<S: Source>(
-    alloc: Global,
-    src: &mut S,
-) -> Result<Rules, StepFault<RuleFault>>
+pub fn rules_from<S: Source>(alloc: Global, src: &mut S) -> Result<Rules, StepFault<RuleFault>>
     ensures { IsStep S.left S.faults longest_rules ReadsFile src.old src.new result }
 {
     let bytes = bytes_from(alloc, src, rule_file::LONGEST as u64)?;
@@ -30,7 +27,7 @@ pub(crate) fn rules_from<S: Source>(
 }
 
 /// Reads the readings of the rules' sensors.
-pub(crate) fn table_from<S: Source>(
+pub fn table_from<S: Source>(
     alloc: Global,
     rules: &Rules,
     src: &mut S,
@@ -42,7 +39,7 @@ pub(crate) fn table_from<S: Source>(
 }
 
 /// Reads a certificate, and checks it by the rules, the table and the bounds that are made of it.
-pub(crate) fn accepted_from<S: Source>(
+pub fn accepted_from<S: Source>(
     alloc: Global,
     rules: &Rules,
     table: &Table,
@@ -74,7 +71,7 @@ fn bytes_from<S: Source, F>(
 }
 
 /// The rules that the bytes spell.
-pub(crate) fn rules_of(alloc: Global, bytes: &[u8]) -> Result<Rules, StepFault<RuleFault>>
+pub fn rules_of(alloc: Global, bytes: &[u8]) -> Result<Rules, StepFault<RuleFault>>
     ensures { IsFound ReadsFile bytes.now result }
 {
     match read_rules(alloc, bytes) {
@@ -85,11 +82,7 @@ pub(crate) fn rules_of(alloc: Global, bytes: &[u8]) -> Result<Rules, StepFault<R
 }
 
 /// The table that the bytes spell.
-pub(crate) fn table_of(
-    alloc: Global,
-    rules: &Rules,
-    bytes: &[u8],
-) -> Result<Table, StepFault<TableFault>>
+pub fn table_of(alloc: Global, rules: &Rules, bytes: &[u8]) -> Result<Table, StepFault<TableFault>>
     ensures { IsFound (ReadsTable rules.now) bytes.now result }
 {
     match read_table(alloc, rules, bytes) {

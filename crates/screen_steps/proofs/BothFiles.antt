@@ -10,9 +10,9 @@ use Rattle.series_csv.specs.File.{TableView, ReadsTable}
 use Rattle.series_csv.specs.declared.table.TheConstants.{LONGEST as longest_readings}
 use Rattle.series_rows.specs.declared.fault.TableFault.{TableFault}
 use Rattle.screen_words.specs.declared.ends.Inputs.{Inputs}
-use Rattle.screen_tool.specs.Answer.{Extent, Whole, Begun, Unread, Answer, AreFront, AreFronts}
-use Rattle.screen_tool.specs.Files.{RulesAreOne, ReadingsAreOne, AfterRules, AfterReadings, AfterBoth, AfterBounds, HasFewBounds, rules_too_long, rules_refused, readings_too_long, readings_refused, too_many_bounds}
-use Rattle.screen_tool.proofs.AfterFile.{more_and_not, after_accepted, after_follows, after_has, after_one, after_rests}
+use Rattle.screen_steps.specs.Answer.{Extent, Whole, Begun, Unread, Answer, AreFront, AreFronts}
+use Rattle.screen_steps.specs.Files.{RulesAreOne, ReadingsAreOne, AfterRules, AfterReadings, AfterBoth, AfterBounds, HasFewBounds, rules_too_long, rules_refused, readings_too_long, readings_refused, too_many_bounds}
+use Rattle.screen_steps.proofs.AfterFile.{more_and_not, after_accepted, after_follows, after_has, after_one, after_rests}
 
 pub whole_not_unread : Whole ≢ Unread
 whole_not_unread e = cc

@@ -2,6 +2,7 @@
 use Rattle.std.specs.Prelude.{◌≡◌, ◌⊎◌, ℕ, ◌+◌, ◌<◌, ◌≤◌, List, length, None}
 use Rattle.bound_maker.specs.declared.maker.TheConstants.{MOST_BOUNDS}
 use Rattle.bound_maker.specs.Bounds.{made_bounds}
+use Rattle.cert_check.specs.Judges.{Judges}
 use Rattle.rule_file.specs.Fault.{of_the_file as of_the_rules}
 use Rattle.rule_file.specs.File.{ReadsFile}
 use Rattle.rule_file.specs.declared.fault.RuleFault.{RuleFault}
@@ -16,7 +17,7 @@ use Rattle.series_rows.specs.declared.fault.TableCause.TheVariants as readings
 use Rattle.screen_words.specs.declared.ends.Inputs.{Inputs}
 use Rattle.screen_words.specs.declared.status.Outcome.{Outcome}
 use Rattle.screen_words.specs.declared.status.Outcome.TheVariants.{RulesRefused, ReadingsRefused, TooManyBounds}
-use Rattle.screen_tool.specs.Answer.{Extent, Whole, Begun, Unread, Answer, AfterFile, AreOne}
+use Rattle.screen_steps.specs.Answer.{Extent, Whole, Begun, Unread, Answer, AfterFile, AreOne}
 
 -- The answer that writes nothing, where the rules and the readings are read so far, and no certificate is.
 abbrev pub without_texts : Outcome → Extent → Extent → Answer
@@ -64,9 +65,12 @@ abbrev pub AfterBounds : Rules → TableView → (Answer → Type 0) → Answer 
 AfterBounds rules table Follows answer =
     ((MOST_BOUNDS < length (made_bounds rules table)) × (answer ≡ too_many_bounds)) ⊎ (HasFewBounds rules table × Follows answer)
 
--- The rules are read as one thing only, and so are the readings by any rules.
+-- The rules are read as one thing only, so are the readings by any rules, and a certificate is judged in one way only.
 abbrev pub RulesAreOne : Type 0
 RulesAreOne = AreOne ReadsFile
 
 abbrev pub ReadingsAreOne : Type 0
 ReadingsAreOne = (rules : Rules) → AreOne (ReadsTable rules)
+
+abbrev pub CertsAreOne : Type 0
+CertsAreOne = (rules : Rules) (table : TableView) → AreOne (Judges rules table)

@@ -1,6 +1,6 @@
 use Rattle.std.proofs.Common.{◌≢◌, rules}
 use Rattle.cert_check.specs.declared.fault.CertFault.TheVariants.{Memory}
-use Rattle.screen_tool.proofs.files.accepted_of.Goals as goal
+use Rattle.screen_steps.proofs.files.accepted_of.Goals as goal
 
 pub returns-in-Err-2 : goal.returns-in-Err-2
 returns-in-Err-2 c =

@@ -10,10 +10,10 @@ use Rattle.rule_file.specs.declared.rules.Rules.{Rules}
 use Rattle.screen_io.specs.Faults.{Rose}
 use Rattle.screen_io.specs.Sink.{Gains, GainsPrefix}
 use Rattle.screen_io.specs.Source.{Takes, IsAtEnd}
-use Rattle.screen_tool.specs.Answer.{Extent, Whole, Begun, Unread, Answer}
-use Rattle.screen_tool.specs.Files.{AfterRules, without_texts}
-use Rattle.screen_tool.specs.Performance.{IsAnswerTo, IsRead, IsWritten, LeavesSinks, Performs, Stays, StopsAtRules}
-use Rattle.screen_tool.specs.declared.online.TheConstants.{MOST_BYTES, PIECE}
+use Rattle.screen_steps.specs.Answer.{Extent, Whole, Begun, Unread, Answer}
+use Rattle.screen_steps.specs.Files.{AfterRules, without_texts}
+use Rattle.screen_steps.specs.Performance.{IsAnswerTo, IsRead, IsWritten, LeavesSinks, Performs, Stays, StopsAtRules}
+use Rattle.screen_online.specs.declared.online.TheConstants.{MOST_BYTES, PIECE}
 use Rattle.screen_words.specs.Faults.{online_ending}
 use Rattle.screen_words.specs.declared.ends.Inputs.{Inputs}
 use Rattle.screen_words.specs.declared.ends.Outputs.{Outputs}
@@ -122,8 +122,8 @@ module _ {S K : Type 0} (left : S → Option (List ℕ)) (source_faults : S → 
   StopsReading ins ins_now outs outs_now =
       (StopsAtRules left source_faults Rose AnswersOnline ins ins_now × LeavesSinks outs outs_now)
       ⊎ ((rules : Rules) × (came : List ℕ) × Streams ins ins_now outs outs_now rules came
-        × Rose (source_faults ins.readings) (source_faults ins_now.readings)
-        × ((out : Output) × IsOutput rules false came out × (out.fault ≡ None) × IsWritten held sink_faults (Some out.text) outs.out outs_now.out))
+      × Rose (source_faults ins.readings) (source_faults ins_now.readings)
+      × ((out : Output) × IsOutput rules false came out × (out.fault ≡ None) × IsWritten held sink_faults (Some out.text) outs.out outs_now.out))
 
   -- A write failed: of the text for the bytes that came, a part is written, from its beginning on, and no less than the whole text
   -- for all of them but the last, which are no more than a piece. Where the readings had ended, it is the text for their end.
@@ -148,10 +148,10 @@ module _ {S K : Type 0} (left : S → Option (List ℕ)) (source_faults : S → 
   StopsStarved ins ins_now outs outs_now =
       (((ins_now ≡ ins) ⊎ StopsAtRules left source_faults Stays AnswersOnline ins ins_now) × LeavesSinks outs outs_now)
       ⊎ ((rules : Rules) × (came : List ℕ) × Streams ins ins_now outs outs_now rules came
-        × Stays (source_faults ins.readings) (source_faults ins_now.readings)
-        × Stays (sink_faults outs.out) (sink_faults outs_now.out)
-        × ((ended : Bool) × (ended ≡ true → IsAtEnd (left ins_now.readings))
-          × ((out : Output) → IsOutput rules ended came out → GainsPrefix (held outs.out) out.text (held outs_now.out))))
+      × Stays (source_faults ins.readings) (source_faults ins_now.readings)
+      × Stays (sink_faults outs.out) (sink_faults outs_now.out)
+      × ((ended : Bool) × (ended ≡ true → IsAtEnd (left ins_now.readings))
+      × ((out : Output) → IsOutput rules ended came out → GainsPrefix (held outs.out) out.text (held outs_now.out))))
 
   -- What `online` leaves that ends so. What comes to an outcome has written the text of an answer whole.
   abbrev pub PerformsOnline : Inputs S → Inputs S → Outputs K → Outputs K → Ending → Type 0

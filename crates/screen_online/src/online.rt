@@ -1,10 +1,10 @@
 //! The command `online`: it repairs readings as they come, and writes each row as soon as it is ready.
-ghost use Rattle.std.specs.Prelude.{◌≡◌, ◌≤◌, ◌<◌, ◌+◌, List, ℕ, length, Some, None, OnOk, OnErr, MatchResult};
+ghost use Rattle.screen_online.specs.Online.{PerformsOnline};
 
-use crate::files::rules_from;
 use online_repair::Online;
 use rule_file::Rules;
 use screen_io::{Failed, Sink, Source, write_all_of};
+use screen_steps::rules_from;
 use screen_words::{Ending, Inputs, Outcome, Outputs};
 use series_csv::{TableCause, TableFault};
 use std::alloc::Global;
@@ -16,7 +16,7 @@ pub const MOST_BYTES: u64 = 1 << 40;
 pub const PIECE: usize = 64 * 1024;
 
 /// Reads the rules, and then the readings piece by piece. What is ready after a piece is written before the next is read.
-pub(crate) fn online<S: Source, K: Sink>(
+pub fn online<S: Source, K: Sink>(
     alloc: Global,
     ins: &mut Inputs<S>,
     outs: &mut Outputs<K>,
@@ -56,7 +56,11 @@ fn repair_all<S: Source, K: Sink>(
 }
 
 /// Reads the next bytes, of which no more than `room` are wanted, and answers how many came.
-fn read_piece<S: Source>(readings: &mut S, piece: &mut [u8; PIECE], room: u64) -> Result<usize, Ending> {
+fn read_piece<S: Source>(
+    readings: &mut S,
+    piece: &mut [u8; PIECE],
+    room: u64,
+) -> Result<usize, Ending> {
     let wanted = wanted_of(room);
     match readings.read(&mut piece[..wanted]) {
         Ok(count) => Ok(count),
@@ -66,7 +70,11 @@ fn read_piece<S: Source>(readings: &mut S, piece: &mut [u8; PIECE], room: u64) -
 
 /// How many bytes to ask for where no more than `room` are wanted.
 fn wanted_of(room: u64) -> usize {
-    if room < PIECE as u64 { room as usize } else { PIECE }
+    if room < PIECE as u64 {
+        room as usize
+    } else {
+        PIECE
+    }
 }
 
 /// Feeds a piece to the repair, and writes what is ready by it.
@@ -100,9 +108,9 @@ fn end_at_limit<S: Source, K: Sink>(
     let mut next = [0u8; 1];
     match readings.read(&mut next) {
         Ok(0) => finish(online, text, out),
-        Ok(_) => Err(Ending::Ended(Outcome::ReadingsRefused(
-            TableFault::of_the_file(TableCause::FileTooLong),
-        ))),
+        Ok(_) => Err(Ending::Ended(Outcome::ReadingsRefused(TableFault::of_the_file(
+            TableCause::FileTooLong,
+        )))),
         Err(Failed) => Err(Ending::ReadFault),
     }
 }

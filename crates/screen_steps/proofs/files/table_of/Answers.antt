@@ -1,7 +1,7 @@
 use Rattle.std.proofs.Common.{◌≢◌, rules}
 use Rattle.series_rows.specs.Faults.{of_memory}
 use Rattle.series_rows.specs.declared.fault.TableCause.TheVariants.{Memory}
-use Rattle.screen_tool.proofs.files.table_of.Goals as goal
+use Rattle.screen_steps.proofs.files.table_of.Goals as goal
 
 pub returns-in-Err-2 : goal.returns-in-Err-2
 returns-in-Err-2 c =

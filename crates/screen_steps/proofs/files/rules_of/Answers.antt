@@ -1,7 +1,7 @@
 use Rattle.std.proofs.Common.{◌≢◌, rules}
 use Rattle.rule_file.specs.Fault.{of_the_file}
 use Rattle.rule_file.specs.declared.fault.RuleCause.TheVariants.{Memory}
-use Rattle.screen_tool.proofs.files.rules_of.Goals as goal
+use Rattle.screen_steps.proofs.files.rules_of.Goals as goal
 
 pub returns-in-Err-2 : goal.returns-in-Err-2
 returns-in-Err-2 c =

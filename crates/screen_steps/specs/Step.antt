@@ -25,17 +25,17 @@ use Rattle.series_rows.specs.declared.fault.TableCause.TheVariants as readings
 use Rattle.screen_io.specs.Faults.{Rose}
 use Rattle.screen_io.specs.Source.{Takes}
 use Rattle.screen_words.specs.declared.ends.Inputs.{Inputs}
-use Rattle.screen_tool.specs.declared.reply.Reply.{Reply}
+use Rattle.screen_steps.specs.declared.reply.Reply.{Reply}
 use Rattle.screen_words.specs.declared.status.Ending.{Ending}
 use Rattle.screen_words.specs.declared.status.Ending.TheVariants as ending
 use Rattle.screen_words.specs.declared.status.Outcome.TheVariants.{RulesRefused, ReadingsRefused, TooManyBounds, CertRefused}
 use Rattle.screen_words.specs.declared.step.StepFault.{StepFault}
 use Rattle.screen_words.specs.declared.step.StepFault.TheVariants.{TooLong, Refused, Failed, Memory}
 use Rattle.screen_tool.specs.declared.checked.Checked.{Checked}
-use Rattle.screen_tool.specs.Answer.{Whole, Begun, Answer}
+use Rattle.screen_steps.specs.Answer.{Whole, Begun, Answer}
 use Rattle.screen_tool.specs.Checked.{AnswersChecked}
-use Rattle.screen_tool.specs.Files.{HasFewBounds}
-use Rattle.screen_tool.specs.Performance.{IsAnswerTo, IsRead, IsAnswered, Starves, Stays, Stops}
+use Rattle.screen_steps.specs.Files.{HasFewBounds}
+use Rattle.screen_steps.specs.Performance.{IsAnswerTo, IsRead, IsAnswered, Starves, Stays, Stops}
 
 -- what is found in bytes that were read, by what they are read as
 abbrev pub IsFound : {A F : Type 0} → (List ℕ → Result A F → Type 0) → List ℕ → Result A (StepFault F) → Type 0
@@ -99,15 +99,3 @@ module _ {S : Type 0} (left : S → Option (List ℕ)) (source_faults : S → �
   Ends Answers ins now ending.ReadFault = Stops left source_faults Rose Answers ins now
   Ends Answers ins now ending.WriteFault = ⊥
   Ends Answers ins now ending.Memory = Starves left source_faults Answers ins now
-
-  -- Three files were read, and accepted as these; and the claim is true.
-  pub record IsChecked (ins now : Inputs S) (checked : Checked) : Type 0 where
-    pub rules : IsStep longest_rules ReadsFile ins.rules now.rules (Ok checked.rules)
-    pub table : IsStep longest_readings (ReadsTable checked.rules) ins.readings now.readings (Ok checked.table)
-    pub few : HasFewBounds checked.rules checked.table
-    pub accepted : IsStep longest_cert (Judges checked.rules checked.table) ins.cert now.cert (Ok checked.accepted)
-    pub is_true : IsTrueClaim checked.rules checked.table checked.accepted
-
-  -- A command that checks a certificate ends so, whatever it would write.
-  abbrev pub EndsUnchecked : Inputs S → Inputs S → Ending → Type 0
-  EndsUnchecked ins now how = (text : Rules → TableView → Accepted → List ℕ) → Ends (AnswersChecked (λ rules table accepted. Unit {0}) text) ins now how

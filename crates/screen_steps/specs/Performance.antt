@@ -16,7 +16,7 @@ use Rattle.screen_words.specs.declared.ends.Roles.{Roles}
 use Rattle.screen_words.specs.declared.status.Ending.{Ending}
 use Rattle.screen_words.specs.declared.status.Ending.TheVariants.{Ended, ReadFault, WriteFault, Memory}
 use Rattle.screen_words.specs.declared.status.Status.{Status}
-use Rattle.screen_tool.specs.Answer.{Extent, Whole, Begun, Unread, Answer}
+use Rattle.screen_steps.specs.Answer.{Extent, Whole, Begun, Unread, Answer}
 use Rattle.screen_words.specs.Ending.{IsStatusFor}
 
 -- what a command answers to the bytes of its sources

@@ -1,0 +1,3 @@
+pub mod AfterFile
+pub mod BothFiles
+pub mod Reading
