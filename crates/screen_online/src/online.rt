@@ -1,7 +1,7 @@
 //! The command `online`: it repairs readings as they come, and writes each row as soon as it is ready.
 ghost use Rattle.screen_online.specs.Online.{PerformsOnline};
 
-use online_repair::Online;
+use online_repair::{Online, OnlineFault};
 use rule_file::Rules;
 use screen_io::{Failed, Sink, Source, write_all_of};
 use screen_steps::rules_from;
@@ -86,6 +86,9 @@ fn feed<K: Sink>(
 ) -> Result<(), Ending> {
     text.clear();
     let fed = online.feed(piece, text);
+    if matches!(fed, Err(OnlineFault::Memory)) {
+        return Err(Ending::Memory);
+    }
     write_ready(out, text.as_slice())?;
     Ok(fed?)
 }
@@ -94,6 +97,9 @@ fn feed<K: Sink>(
 fn finish<K: Sink>(online: &mut Online<'_>, text: &mut Vec<u8>, out: &mut K) -> Result<(), Ending> {
     text.clear();
     let ended = online.finish(text);
+    if matches!(ended, Err(OnlineFault::Memory)) {
+        return Err(Ending::Memory);
+    }
     write_ready(out, text.as_slice())?;
     Ok(ended?)
 }
