@@ -1,4 +1,5 @@
 //! The command `online`: it repairs readings as they come, and writes each row as soon as it is ready.
+ghost use Rattle.std.specs.Prelude.{◌≡◌, ◌≢◌};
 ghost use Rattle.screen_online.specs.Online.{PerformsOnline};
 
 use online_repair::{Online, OnlineFault};
@@ -21,7 +22,9 @@ pub fn online<S: Source, K: Sink>(
     ins: &mut Inputs<S>,
     outs: &mut Outputs<K>,
 ) -> Ending
-    ensures { PerformsOnline S.left S.faults K.held K.faults ins.old ins.new outs.old outs.new result }
+    ensures performs { PerformsOnline S.left S.faults K.held K.faults ins.old ins.new outs.old outs.new result }
+    ensures no_usage { result ≢ Ending.Ended Outcome.Usage }
+    ensures note { outs.new.note ≡ outs.old.note }
 {
     let rules = match rules_from(alloc, &mut ins.rules) {
         Ok(rules) => rules,
