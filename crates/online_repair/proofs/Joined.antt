@@ -1,11 +1,10 @@
 -- What is appended by one piece after the other.
-use Rattle.std.proofs.Common.{◌≡◌, ℕ, Bool, true, false, List, [], ◌++◌, refl, sym, ap, ◌∙◌, subst, append_assoc, append-nil}
+use Rattle.std.proofs.Common.{◌≡◌, ℕ, Bool, false, List, [], ◌++◌, refl, sym, ap, ◌∙◌, subst, append_assoc, append-nil}
 use Rattle.std.specs.Prelude.{Option, Some, None, Result, Ok, Err}
 use Rattle.rule_file.specs.declared.rules.Rules.{Rules}
 use Rattle.online_repair.specs.Feeds.{Answers, Appends, AppendsPart, Refuses, Takes}
 use Rattle.online_repair.specs.Output.{IsOutput, Output}
 use Rattle.online_repair.specs.declared.fault.OnlineFault.{OnlineFault}
-use Rattle.online_repair.specs.declared.fault.OnlineFault.TheVariants.{Memory}
 
 -- ---- texts
 

@@ -1,6 +1,6 @@
 -- What is answered to bytes of a piece, up to the end of a record.
-use Rattle.std.proofs.Common.{◌≡◌, ℕ, zero, suc, Bool, true, false, List, [], ◌∷◌, ◌++◌, length, take, drop, refl, sym, ap, ◌∙◌, subst, append_assoc, append-nil}
-use Rattle.std.specs.Prelude.{IsSome, Option, Some, None, Result, Ok, Err, option_map}
+use Rattle.std.proofs.Common.{◌≡◌, ℕ, Bool, true, false, List, [], ◌++◌, take, drop, refl, sym, ap, ◌∙◌, subst, append_assoc, append-nil}
+use Rattle.std.specs.Prelude.{Option, Some, None, Ok, Err, option_map}
 use Rattle.std.specs.Option.{option_or}
 use Rattle.std.proofs.lemmas.List.{take-append-drop}
 use Rattle.rule_file.specs.declared.rules.Rules.{Rules}
@@ -22,7 +22,7 @@ use Rattle.series_csv.specs.declared.reader.RowReader.{RowReader}
 use Rattle.online_repair.specs.Accepted.{Accepted, accept}
 use Rattle.online_repair.specs.Faults.{fault_by, fault_of}
 use Rattle.online_repair.specs.Feeds.{Answers, Appends, AppendsPart}
-use Rattle.online_repair.specs.Output.{IsOutput, Output, Reads, leaving, output, output_of, output_with}
+use Rattle.online_repair.specs.Output.{IsOutput, Output, Reads, output, output_of, output_with}
 use Rattle.online_repair.specs.StandsFor.{EngineKeeps, GoesOn}
 use Rattle.online_repair.specs.Streams.{FeedsSome, MayTake, StopsAll, StopsBy, TakesEvent}
 use Rattle.online_repair.specs.declared.engine.Engine.{Engine}
@@ -32,7 +32,7 @@ use Rattle.online_repair.specs.declared.stream.Stream.{Stream}
 use Rattle.online_repair.proofs.Grown.{Begins}
 use Rattle.online_repair.proofs.Joined.{appends_none}
 use Rattle.online_repair.proofs.Longer.{accept_skip, grown, kept_none_refused}
-use Rattle.online_repair.proofs.Outputs.{all_of, none_leaves}
+use Rattle.online_repair.proofs.Outputs.{none_leaves}
 use Rattle.online_repair.proofs.Taking.{IsStopped, kept_text, stopped_output}
 
 -- ---- a file has one output

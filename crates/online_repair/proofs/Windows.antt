@@ -1,9 +1,8 @@
 -- The rows that are held and the windows, while a repair stands for bytes.
-use Rattle.std.proofs.Common.{◌≡◌, ℕ, zero, suc, ◌+◌, ◌-◌, ◌≤◌, ◌<◌, ◌^◌, Bool, true, false, List, [], ◌∷◌, ◌++◌, length, reverse, take, drop, refl, sym, ap, ◌∙◌, subst, arith, append-nil, length-append}
+use Rattle.std.proofs.Common.{◌≡◌, ℕ, ◌-◌, ◌≤◌, Bool, true, false, List, [], ◌∷◌, ◌++◌, length, reverse, take, refl, sym, ap, ◌∙◌, subst, arith, append-nil, length-append}
 use Rattle.std.specs.Prelude.{Option, Some, None, min, option_map}
 use Rattle.std.proofs.lemmas.List.{reverse-reverse}
 use Rattle.rule_file.specs.declared.rules.Rules.{Rules}
-use Rattle.rule_file.specs.declared.rules.SpeedRule.{SpeedRule}
 use Rattle.series_rows.specs.Header.{HeaderView}
 use Rattle.series_rows.specs.Row.{RowView}
 use Rattle.series_rows.specs.declared.fault.TableFault.{TableFault}
@@ -17,12 +16,11 @@ use Rattle.online_values.specs.Sensor.{speed_of}
 use Rattle.online_repair.specs.Accepted.{Accepted}
 use Rattle.online_repair.specs.Feeds.{HasWindow, IsWindow, LacksWindow, rule_of_column, successors_of_last}
 use Rattle.online_repair.specs.Output.{IsOutput, Output, Reads, output, output_of, output_with}
-use Rattle.online_repair.specs.Rows.{keys_in, rule_in}
+use Rattle.online_repair.specs.Rows.{keys_in}
 use Rattle.online_repair.specs.Sensors.{IsTrackOf, IsWindowOf, place_in}
-use Rattle.online_repair.specs.Standing.{AreStanding, IsStanding, IsWindowed}
-use Rattle.online_repair.specs.StandsFor.{EngineEnded, EngineKeeps, GoesOn, IsOver, OnlineView, StandsFor, StreamStands, held_by}
+use Rattle.online_repair.specs.Standing.{AreStanding, IsWindowed}
+use Rattle.online_repair.specs.StandsFor.{EngineEnded, EngineKeeps, StreamStands, held_by}
 use Rattle.online_repair.specs.declared.engine.Engine.{Engine}
-use Rattle.online_repair.specs.declared.fault.OnlineFault.{OnlineFault}
 use Rattle.online_repair.specs.declared.fault.OnlineFault.TheVariants.{Table}
 use Rattle.online_repair.specs.declared.stream.Stream.{Stream}
 use Rattle.online_repair.proofs.Outputs as outputs

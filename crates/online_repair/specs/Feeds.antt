@@ -1,6 +1,6 @@
 -- To be believed: what the online repair answers to a piece of a file and to its end, what it adds to the text, and which
 -- windows it shows.
-use Rattle.std.specs.Prelude.{◌≡◌, ℕ, ◌-◌, Bool, true, false, List, [], ◌∷◌, ◌++◌, length, reverse, take, Option, Some, None, Result, Ok, Err, OnOk}
+use Rattle.std.specs.Prelude.{◌≡◌, ℕ, ◌-◌, Bool, false, List, [], ◌∷◌, ◌++◌, length, reverse, take, Option, Some, None, Result, Ok, Err, OnOk}
 use Rattle.rule_file.specs.declared.rules.Rules.{Rules}
 use Rattle.rule_file.specs.declared.rules.SpeedRule.{SpeedRule}
 use Rattle.series_rows.specs.Header.{HeaderView}

@@ -1,9 +1,8 @@
 -- For proofs: the repairs of all columns, between the rows that were written and those that are held.
-use Rattle.std.specs.Prelude.{◌≡◌, ℕ, ◌^◌, ◌<◌, ◌≤◌, ℤ, ◌-◌, ◌-ℤ◌, ◌<ℤ◌, List, [], ◌∷◌, ◌++◌, length, map, reverse, take, drop, slice_get, slice_index_or, slice_set, int_le, int_lt, ◌&&◌, Bool, true, false, Option, Some, None}
-use Rattle.std.specs.List.{AllByRecursion, AllZip, position}
+use Rattle.std.specs.Prelude.{◌≡◌, ℕ, ℤ, ◌-◌, ◌-ℤ◌, ◌<ℤ◌, List, [], ◌∷◌, map, slice_get, slice_set, int_le, int_lt, ◌&&◌, Bool, false, Option, Some, None}
+use Rattle.std.specs.List.{AllZip, position}
 use Rattle.rule_file.specs.declared.rules.Rules.{Rules}
 use Rattle.rule_file.specs.declared.rules.SpeedRule.{SpeedRule}
-use Rattle.rule_file.specs.Limits.{IsUnits}
 use Rattle.series_rows.specs.Header.{HeaderView, column_of}
 use Rattle.series_rows.specs.Row.{RowView}
 use Rattle.series_rows.specs.declared.cell.RowReading.{RowReading}

@@ -1,4 +1,4 @@
-use Rattle.std.proofs.Common.{length, ap, ◌∙◌}
+use Rattle.std.proofs.Common.{ap, ◌∙◌}
 use Rattle.std.specs.Prelude.{ℕ, min}
 use Rattle.online_repair.proofs.Public.{stands_at}
 use Rattle.online_repair.proofs.Windows.{held_count}
