@@ -19,7 +19,8 @@ use Rattle.online_repair.specs.Output.{IsOutput, Output, Reads, output, output_o
 use Rattle.online_repair.specs.Rows.{keys_in}
 use Rattle.online_repair.specs.Sensors.{IsTrackOf, IsWindowOf, place_in}
 use Rattle.online_repair.specs.Standing.{AreStanding, IsWindowed}
-use Rattle.online_repair.specs.StandsFor.{EngineEnded, EngineKeeps, StreamStands, held_by}
+use Rattle.online_repair.specs.Held.{held_by, held_rows}
+use Rattle.online_repair.specs.StandsFor.{EngineEnded, EngineKeeps, OnlineView, StandsFor, StreamStands}
 use Rattle.online_repair.specs.declared.engine.Engine.{Engine}
 use Rattle.online_repair.specs.declared.fault.OnlineFault.TheVariants.{Table}
 use Rattle.online_repair.specs.declared.stream.Stream.{Stream}
@@ -74,6 +75,9 @@ pub held_is : FilesHaveOneAnswer → (rules : Rules) (ended : Bool) (bytes : Lis
 held_is law rules ended bytes out stream stands is =
     let kept = kept_of ended stream rules bytes stands in
     ap (λ (o : Output). o.held) (same_output law rules ended bytes kept.read out kept.reads is) ∙ held_read ended rules kept.read stream.engine kept.not_refused kept.kept
+
+pub held_rows_are : FilesHaveOneAnswer → (rules : Rules) (ended : Bool) (bytes : List ℕ) (out : Output) (online : OnlineView) → StandsFor online rules ended bytes → IsOutput rules ended bytes out → held_rows online ≡ out.held
+held_rows_are law rules ended bytes out online stands is = sym (held_is law rules ended bytes out online.stream stands.stream is)
 
 few_open : (rules : Rules) (header : Option HeaderView) (rows : List RowView) (engine : Option Engine) → EngineKeeps rules header rows engine → length (held_by engine) ≤ rules.format.hold
 few_open rules header rows None keeps = omega arith

@@ -47,6 +47,7 @@ impl<'a> Online<'a> {
     ghost use Rattle.online_repair.specs.Output.{Output, IsOutput};
     ghost use Rattle.online_repair.specs.StandsFor.{StandsFor, HasRefused, HasEnded};
     ghost use Rattle.online_repair.specs.Feeds.{Feeds, HasWindow, LacksWindow};
+    ghost use Rattle.online_repair.specs.Held.{held_rows};
     ghost use Rattle.online_repair.specs.declared.fault.OnlineFault.{OnlineFault};
     ghost use Rattle.order_window.specs.declared.window.OrderWindow.{OrderWindow};
 
@@ -116,10 +117,13 @@ impl<'a> Online<'a> {
         ended
     }
 
-    /// How many rows are held: those that are accepted and not ready. It takes no memory.
+    /// How many rows are held: those that are accepted and not ready. These rows are in the ring of the repair, and no
+    /// others. It takes no memory.
     pub fn held(&self) -> u32
         ensures held { (rules : Rules) (ended : Bool) (bytes : List ℕ) (out : Output)
             → StandsFor self.now rules ended bytes → IsOutput rules ended bytes out → result ≡ length out.held }
+        ensures rows { (rules : Rules) (ended : Bool) (bytes : List ℕ) (out : Output)
+            → StandsFor self.now rules ended bytes → IsOutput rules ended bytes out → held_rows self.now ≡ out.held }
         ensures most { (rules : Rules) (ended : Bool) (bytes : List ℕ) → StandsFor self.now rules ended bytes → result ≤ rules.format.hold }
     {
         // The law that what was read is one thing only; it does nothing.
