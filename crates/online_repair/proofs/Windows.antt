@@ -148,8 +148,11 @@ window_seen ended rules read engine col window all held is =
     subst W (sym held) (record {
       rule = found.rule;
       names = ap (λ (h : Option HeaderView). rule_of_column rules h col) all.header_is ∙ rule_at rules all.header col is.place engine.tracks.items all.stands.of_rules is.place_is ∙ found.at;
-      keys = is.keys ∙ stands.keys_are ∙ window_by speed col (keys_in col all.before) is.track.next engine.held.items stands.windowed
+      keys = ap (λ (w : Window). w.keys) is.window_is ∙ stands.keys_are ∙ window_by speed col (keys_in col all.before) is.track.next engine.held.items stands.windowed
           ∙ ap (λ (rs : List RowView). successors_of_last speed (keys_in col rs) (keys_in col engine.held.items)) (sym (written_are read.rows all.before engine.held.items all.joined));
+      room = ap (λ (w : Window). w.room) is.window_is ∙ found.is.room;
+      rates = ap (λ (w : Window). w.rates) is.window_is ∙ ap (λ (s : Speed). s.rates) found.is.speed;
+      span = ap (λ (w : Window). w.span) is.window_is ∙ ap (λ (s : Speed). s.span) found.is.speed;
     })
 
 pub has_window : FilesHaveOneAnswer → (rules : Rules) (ended : Bool) (bytes : List ℕ) (col : ℕ) (stream : Stream) (engine : Engine) (window : Window) → StreamStands ended stream rules bytes → stream.engine ≡ Some engine → IsWindowOf col engine.tracks.items window → HasWindow rules ended bytes col window

@@ -74,11 +74,15 @@ abbrev pub LacksWindow : Rules → Bool → List ℕ → ℕ → Type 0
 LacksWindow rules ended bytes col = (read : Read) → Reads rules ended bytes read → rule_of_column rules read.header col ≡ None
 
 -- The window of a column: its keys are the successors of the last reading in the rows that are ready, which are all that are
--- not held.
+-- not held. It has room for all rows that may be held, and the rates, the decimals and the span are those of the rule of the
+-- column.
 pub record IsWindow (rules : Rules) (read : Read) (held : List RowView) (col : ℕ) (window : Window) : Type 0 where
   pub rule : SpeedRule
   pub names : rule_of_column rules read.header col ≡ Some rule
   pub keys : window.keys ≡ successors_of_last (speed_of rule rules.format.decimals) (keys_in col (reverse (take (length read.rows - length held) read.rows))) (keys_in col held)
+  pub room : window.room ≡ rules.format.hold
+  pub rates : window.rates ≡ record { min = rule.min; max = rule.max; decimals = rules.format.decimals }
+  pub span : window.span ≡ rule.window
 
 abbrev pub HasWindow : Rules → Bool → List ℕ → ℕ → Window → Type 0
 HasWindow rules ended bytes col window = (read : Read) → Reads rules ended bytes read → IsWindow rules read (output rules ended read).held col window

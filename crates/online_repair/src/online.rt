@@ -132,8 +132,9 @@ impl<'a> Online<'a> {
     }
 
     /// The window of the sensor in a column, counted from 1: its keys are the successors of the sensor's last reading in the
-    /// rows that are ready. `None` exactly where the header is not read, or no rule names a sensor in this column. It takes
-    /// no memory.
+    /// rows that are ready, its rates, decimals and span those of the sensor's rule, and it has room for as many keys as rows
+    /// may be held. `None` exactly where the header is not read, or no rule names a sensor in this column. It takes no
+    /// memory.
     #[tactic(none)]
     pub fn window(&self, col: u32) -> Option<&OrderWindow>
         ensures { (rules : Rules) (ended : Bool) (bytes : List ℕ) → StandsFor self.now rules ended bytes
