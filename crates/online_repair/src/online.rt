@@ -76,7 +76,7 @@ impl<'a> Online<'a> {
     /// # Errors
     ///
     /// The first refusal of the file, which is kept for ever; `out` then has the text before it. After want of memory,
-    /// which may come at any byte, `out` has a part of the text, from its beginning on.
+    /// which may come at any byte, `out` has a part of the text for some of the first bytes, from its beginning on.
     #[tactic(none)]
     pub fn feed(&mut self, bytes: &[u8], out: &mut Vec<u8>) -> Result<(), OnlineFault>
         requires { ¬ HasEnded self.old }
