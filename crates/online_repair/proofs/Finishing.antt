@@ -26,7 +26,7 @@ use Rattle.online_repair.specs.declared.fault.OnlineFault.{OnlineFault}
 use Rattle.online_repair.specs.declared.fault.OnlineFault.TheVariants.{Table}
 use Rattle.online_repair.specs.declared.stream.Stream.{Stream}
 use Rattle.online_repair.proofs.FromFile.{ended_header}
-use Rattle.online_repair.proofs.Joined.{appends_none, join_appends, join_part}
+use Rattle.online_repair.proofs.Joined.{appends_none, appends_nothing, join_appends, join_part}
 use Rattle.online_repair.proofs.Outputs.{all_of}
 use Rattle.online_repair.proofs.Pieces.{IsRefused, event_fault, goes_same, grown_output, is_refused, not_memory, refused_appends, same_output}
 use Rattle.online_repair.proofs.Taking.{so_far, stops_texts}
@@ -61,6 +61,16 @@ end_stops one rules bytes read fault old new reads stops =
             stays = λ out is_out. (later before out is is_out).0 other;
           },
       λ memory before out is is_out. (later before out is is_out).1 memory,
+      λ memory before is. record {
+        front = [];
+        rest = [];
+        piece_is = refl;
+        over = true;
+        over_is = λ ended. (refl, refl);
+        now = output rules true read;
+        is_output = from_end rules bytes (output rules true read) (record { read = read; reads = reads; is = refl });
+        part = (stops before is).1 memory;
+      },
     )
 
 -- ---- the last record
@@ -132,6 +142,7 @@ last_refused one stay rules bytes fault old text goes ends =
           },
       λ memory before out is is_out.
           grown_output rules true (bytes ++ []) goes.read is_out.read old.engine before out text goes.not_refused goes.engine is_out.reads ((stay rules Endless bytes [] goes.read goes.reads).ended is_out.read is_out.reads) (first before is) is_out.is,
+      λ memory before is. appends_nothing rules true bytes [] text before is,
     )
 
 -- ---- all rows are written

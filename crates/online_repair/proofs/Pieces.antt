@@ -30,7 +30,7 @@ use Rattle.online_repair.specs.declared.fault.OnlineFault.{OnlineFault}
 use Rattle.online_repair.specs.declared.fault.OnlineFault.TheVariants.{Memory, Table}
 use Rattle.online_repair.specs.declared.stream.Stream.{Stream}
 use Rattle.online_repair.proofs.Grown.{Begins}
-use Rattle.online_repair.proofs.Joined.{appends_none}
+use Rattle.online_repair.proofs.Joined.{appends_none, appends_nothing, never_over}
 use Rattle.online_repair.proofs.Longer.{accept_skip, grown, kept_none_refused}
 use Rattle.online_repair.proofs.Outputs.{none_leaves}
 use Rattle.online_repair.proofs.Taking.{IsStopped, kept_text, stopped_output}
@@ -154,6 +154,16 @@ fed_stops one stay rules bytes rest count event old new fault text now goes adds
             stays = λ out is_out. (later before out is is_out).0 other;
           },
       λ memory before out is is_out. (later before out is is_out).1 memory,
+      λ memory before is. record {
+        front = front;
+        rest = drop count rest;
+        piece_is = sym (take-append-drop count rest);
+        over = false;
+        over_is = never_over;
+        now = output rules false read;
+        is_output = record { read = read; reads = reads; is = refl };
+        part = (here before is).1 memory;
+      },
     )
 
 -- ---- the file is refused
@@ -238,4 +248,5 @@ fed_refused one stay rules bytes rest count fault old new text goes feeds =
           },
       λ memory before out is is_out.
           grown_output rules false (bytes ++ rest) goes.read is_out.read old.engine before out text goes.not_refused goes.engine is_out.reads ((stay rules Endless bytes rest goes.read goes.reads).so_far is_out.read is_out.reads) (first before is) is_out.is,
+      λ memory before is. appends_nothing rules false bytes rest text before is,
     )
