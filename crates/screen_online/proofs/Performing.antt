@@ -158,7 +158,22 @@ module _ {S K : Type 0} (left : S → Option (List ℕ)) (source_faults : S → 
   }
   repairs_perform ins rules readings outs out found (Err Memory) q (inl g) = inl (inr (unbegun ins rules readings found q g.0), (refl, g.1))
   repairs_perform ins rules readings outs out found (Err Memory) q (inr g) =
-      inr (found, g.came, streams ins rules readings outs out found g.came q g.begun, g.unfailed, g.sink_unfailed, (g.ended, g.at_end, g.part))
+      inr (record {
+        rules = found;
+        came = g.came;
+        streams = streams ins rules readings outs out found g.came q g.begun;
+        unfailed = g.unfailed;
+        earlier = g.earlier;
+        last = g.last;
+        came_are = g.came_are;
+        piece = g.piece;
+        out = g.written.out;
+        is_output = g.written.is_output;
+        written = g.written.written;
+        ended = g.ended;
+        at_end = g.at_end;
+        begins = g.part;
+      })
 
 -- ---- no ending is that of words that ask for no command
 

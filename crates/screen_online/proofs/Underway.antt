@@ -254,18 +254,22 @@ module _ {S K : Type 0} (left : S → Option (List ℕ)) (source_faults : S → 
       (inr (refusal, refused_piece rules came piece text refusal before.out begun.within short refuses)) refuses.at_front.appends cut
 
   starved : (rules : Rules) (came piece text all : List ℕ) (ended : Bool) (source now : S) (sink middle later : K)
-      → IsBegun left source_faults held sink_faults rules all source now → all ≡ came ++ piece
+      → IsBegun left source_faults held sink_faults rules all source now → all ≡ came ++ piece → length piece ≤ PIECE
       → Stays (source_faults source) (source_faults now) → (ended ≡ true → IsAtEnd (left now))
       → (before : HasWritten held sink_faults rules came sink middle)
       → Answers rules ended came piece (Err fault.Memory) [] text → later ≡ middle
       → IsStarved left source_faults held sink_faults rules source now sink later
-  starved rules came piece text all ended source now sink middle later begun all_is unfailed at_end before answers same =
-      let F : K → Type 0 = λ k. Stays (sink_faults sink) (sink_faults k) in
+  starved rules came piece text all ended source now sink middle later begun all_is short unfailed at_end before answers same =
+      let W : K → Type 0 = λ k. HasWritten held sink_faults rules came sink k in
       record {
         came = all;
         begun = begun;
         unfailed = unfailed;
-        sink_unfailed = subst F (sym same) before.written.1;
+        earlier = came;
+        last = piece;
+        came_are = all_is;
+        piece = short;
+        written = subst W (sym same) before;
         ended = ended;
         at_end = at_end;
         part = λ out is.
@@ -289,7 +293,7 @@ module _ {S K : Type 0} (left : S → Option (List ℕ)) (source_faults : S → 
       piece_cut rules way.came piece text handed.0 source now sink middle later begun short (unfailed ∙ way.unfailed) way.written handed.1 handed.2 handed.3
   piece_ends rules room online next piece text source between now sink middle later Memory way taken unfailed within short handed =
       let begun = begun_more rules way.came piece source between now way.begun taken (still_within way.came piece room MOST_BYTES way.room_is within) in
-      inr (starved rules way.came piece text (way.came ++ piece) false source now sink middle later begun refl (unfailed ∙ way.unfailed) (λ e. absurd (cc e)) way.written handed.0 handed.1)
+      inr (starved rules way.came piece text (way.came ++ piece) false source now sink middle later begun refl short (unfailed ∙ way.unfailed) (λ e. absurd (cc e)) way.written handed.0 handed.1)
 
   -- ---- the readings have ended
 
@@ -301,7 +305,17 @@ module _ {S K : Type 0} (left : S → Option (List ℕ)) (source_faults : S → 
   whole_given rules came text out outcome source now sink middle later begun at_end unfailed before ends is appends written =
       let answer : Answer = streamed outcome Whole out.text in
       let A : Option ℕ → Type 0 = λ start. AfterStart rules came start answer in
-      let whole : IsWhole rules came answer = record { within = begun.within; out = out; is_output = is; outcome = outcome; ending = ends; answer_is = refl } in
+      let whole : IsWhole rules came answer = record {
+        within = begun.within;
+        before = before.out;
+        is_before = before.is_output;
+        goes_on = before.no_fault;
+        out = out;
+        is_output = is;
+        outcome = outcome;
+        ending = ends;
+        answer_is = refl;
+      } in
       record {
         came = came;
         answer = answer;
@@ -359,7 +373,8 @@ module _ {S K : Type 0} (left : S → Option (List ℕ)) (source_faults : S → 
   ends rules room online next text source between now sink middle later (Err WriteFault) way begun at_end unfailed handed =
       end_cut rules way.came text handed.0 source now sink middle later begun at_end (unfailed ∙ way.unfailed) way.written handed.1 handed.2 handed.3
   ends rules room online next text source between now sink middle later (Err Memory) way begun at_end unfailed handed =
-      inr (starved rules way.came [] text way.came true source now sink middle later begun (sym (append-nil way.came)) (unfailed ∙ way.unfailed) (λ e. at_end) way.written handed.0 handed.1)
+      let short : 0 ≤ PIECE = omega arith in
+      inr (starved rules way.came [] text way.came true source now sink middle later begun (sym (append-nil way.came)) short (unfailed ∙ way.unfailed) (λ e. at_end) way.written handed.0 handed.1)
 
   -- ---- as many bytes came as may, and one more
 

@@ -50,9 +50,13 @@ abbrev pub ending_for : Option OnlineFault → Ending
 ending_for None = Ended Done
 ending_for (Some fault) = online_ending fault
 
--- The readings are read to their end, and the text for all of them is written.
+-- The readings are read to their end, since none of them is refused as long as they may go on. The text for all of them is
+-- written; the end may be refused.
 pub record IsWhole (rules : Rules) (readings : List ℕ) (answer : Answer) : Type 0 where
   pub within : length readings ≤ MOST_BYTES
+  pub before : Output
+  pub is_before : IsOutput rules false readings before
+  pub goes_on : before.fault ≡ None
   pub out : Output
   pub is_output : IsOutput rules true readings out
   pub outcome : Outcome
@@ -142,16 +146,29 @@ module _ {S K : Type 0} (left : S → Option (List ℕ)) (source_faults : S → 
     pub gains : Gains (held outs.out) (take count text) (held outs_now.out)
     pub failed : Rose (sink_faults outs.out) (sink_faults outs_now.out)
 
-  -- Memory ran out, and nothing failed: before a repair was begun, and nothing is written; or later, and of any text for the
-  -- bytes that came a part is written, from its beginning on.
+  -- Memory ran out at a piece, or at the end of the readings, and nothing failed. The text for the bytes before that piece is
+  -- written, and no more. It begins every text for all bytes that came.
+  pub record StarvesAtPiece (ins ins_now : Inputs S) (outs outs_now : Outputs K) : Type 0 where
+    pub rules : Rules
+    pub came : List ℕ
+    pub streams : Streams ins ins_now outs outs_now rules came
+    pub unfailed : Stays (source_faults ins.readings) (source_faults ins_now.readings)
+    pub earlier : List ℕ
+    pub last : List ℕ
+    pub came_are : came ≡ earlier ++ last
+    pub piece : length last ≤ PIECE
+    pub out : Output
+    pub is_output : IsOutput rules false earlier out
+    pub written : IsWritten held sink_faults (Some out.text) outs.out outs_now.out
+    pub ended : Bool
+    pub at_end : ended ≡ true → IsAtEnd (left ins_now.readings)
+    pub begins : (whole : Output) → IsOutput rules ended came whole → GainsPrefix (held outs.out) whole.text (held outs_now.out)
+
+  -- Memory ran out, and nothing failed: before a repair was begun, and then nothing is written; or later.
   abbrev pub StopsStarved : Inputs S → Inputs S → Outputs K → Outputs K → Type 0
   StopsStarved ins ins_now outs outs_now =
       (((ins_now ≡ ins) ⊎ StopsAtRules left source_faults Stays AnswersOnline ins ins_now) × LeavesSinks outs outs_now)
-      ⊎ ((rules : Rules) × (came : List ℕ) × Streams ins ins_now outs outs_now rules came
-      × Stays (source_faults ins.readings) (source_faults ins_now.readings)
-      × Stays (sink_faults outs.out) (sink_faults outs_now.out)
-      × ((ended : Bool) × (ended ≡ true → IsAtEnd (left ins_now.readings))
-      × ((out : Output) → IsOutput rules ended came out → GainsPrefix (held outs.out) out.text (held outs_now.out))))
+      ⊎ StarvesAtPiece ins ins_now outs outs_now
 
   -- What `online` leaves that ends so. What comes to an outcome has written the text of an answer whole.
   abbrev pub PerformsOnline : Inputs S → Inputs S → Outputs K → Outputs K → Ending → Type 0

@@ -11,7 +11,7 @@ use Rattle.screen_io.specs.Faults.{Rose}
 use Rattle.screen_io.specs.Sink.{Gains, GainsPrefix}
 use Rattle.screen_io.specs.Source.{Takes, IsAtEnd}
 use Rattle.screen_online.specs.Online.{AfterStart, HasText, IsWrittenFor}
-use Rattle.screen_online.specs.declared.stream.TheConstants.{MOST_BYTES}
+use Rattle.screen_online.specs.declared.stream.TheConstants.{MOST_BYTES, PIECE}
 use Rattle.screen_steps.specs.Answer.{Answer}
 use Rattle.screen_steps.specs.Performance.{IsCut, IsRead, IsWritten, Stays}
 use Rattle.screen_words.specs.Faults.{online_ending}
@@ -95,12 +95,16 @@ module _ {S K : Type 0} (left : S → Option (List ℕ)) (source_faults : S → 
     pub gains : Gains (held sink) (take count text) (held sink_now)
     pub failed : Rose (sink_faults sink) (sink_faults sink_now)
 
-  -- Memory ran out, and of any text for the bytes that came a part is written.
+  -- Memory ran out at a piece, and the text for the bytes before it is written, which begins any text for all of them.
   pub record IsStarved (rules : Rules) (source source_now : S) (sink sink_now : K) : Type 0 where
     pub came : List ℕ
     pub begun : IsBegun rules came source source_now
     pub unfailed : Stays (source_faults source) (source_faults source_now)
-    pub sink_unfailed : Stays (sink_faults sink) (sink_faults sink_now)
+    pub earlier : List ℕ
+    pub last : List ℕ
+    pub came_are : came ≡ earlier ++ last
+    pub piece : length last ≤ PIECE
+    pub written : HasWritten held sink_faults rules earlier sink sink_now
     pub ended : Bool
     pub at_end : ended ≡ true → IsAtEnd (left source_now)
     pub part : (out : Output) → IsOutput rules ended came out → GainsPrefix (held sink) out.text (held sink_now)
