@@ -1,4 +1,4 @@
--- Bytes that all belong to the field at a place, and the separator after it.
+-- Bytes that all belong to the field at a place, and the separator or the line feed after it.
 use Rattle.std.proofs.Common.{◌≡◌, ◌≢◌, ℕ, ◌+◌, ◌<◌, ◌≤◌, true, false, List, [], ◌∷◌, ◌++◌, length, take, Result, Ok, Err, refl, sym, ap, ◌∙◌, subst, arith, append_assoc}
 use Rattle.std.specs.Prelude.{IfOk}
 use Rattle.std.proofs.lemmas.List.{append-nil, length-take, take-take}
@@ -8,21 +8,21 @@ use Rattle.record_cut.specs.Quotes.{holds_quote}
 use Rattle.record_cut.specs.Row.{holds_special}
 use Rattle.record_cut.specs.Records.{by_record, records_from}
 use Rattle.record_cut.specs.Resumed.{from_plain, from_quoted, Fits}
-use Rattle.record_cut.specs.Moves.{is_unquoted, RunsTo, Opens}
-use Rattle.record_cut.specs.StandsFor.{StandsFor}
-use Rattle.record_cut.specs.Feeds.{GoesOn}
+use Rattle.record_cut.specs.Moves.{in_unquoted, is_unquoted, RunsTo, Opens}
+use Rattle.record_cut.specs.StandsFor.{StandsFor, HasBegun}
+use Rattle.record_cut.specs.Feeds.{GoesOn, EndsRecord}
 use Rattle.record_cut.specs.declared.fault.CutFault.{CutFault}
 use Rattle.record_cut.specs.declared.phase.Place.TheVariants.{Field, Plain, PlainCr, Quoted, QuoteInQuoted, ClosedCr}
 use Rattle.record_cut.specs.declared.phase.Phase.{Phase}
 use Rattle.record_cut.specs.declared.phase.Phase.TheVariants.{Input, MarkOne, MarkTwo, Record, RecordCr, Inside, Refused}
-use Rattle.record_cut.specs.declared.phase.Move.TheVariants.{To}
+use Rattle.record_cut.specs.declared.phase.Move.TheVariants.{To, EndRecord}
 use Rattle.record_cut.specs.declared.phase.Opening.TheVariants.{Read}
 use Rattle.record_cut.specs.declared.cutter.Cutter.{Cutter}
 use Rattle.record_cut.proofs.Grammar.{other_byte, plain-other, quoted-other}
 use Rattle.record_cut.proofs.Runs.{ordinary, others-ordinary, no_quote-first, others-no_quote}
-use Rattle.record_cut.proofs.Steps.{plain-grows, quoted-grows, field-plain, plain-at_sep}
+use Rattle.record_cut.proofs.Steps.{plain-grows, quoted-grows, field-plain, plain-at_sep, plain-at_line_feed}
 use Rattle.record_cut.proofs.Openings.{record-at_other}
-use Rattle.record_cut.proofs.Standing.{Resumes, OpensAs, goes-on, run-step, fed-to}
+use Rattle.record_cut.proofs.Standing.{Resumes, OpensAs, goes-on, run-step, fed-to, fed-end}
 
 same_draft : (old new : Drafted) → new.fields ≡ old.fields → new.field ≡ old.field → old ≡ new
 same_draft old new e f = ap (λ fields. record { fields = fields; field = old.field }) (sym e) ∙ ap (λ field. record { fields = new.fields; field = field }) (sym f)
@@ -79,6 +79,27 @@ fed-separator old new byte bytes u is e f same phase size stands =
     let other : (n : ℕ) → n ≢ old.sep → byte ≢ n = λ n h g. h (sym g ∙ is) in
     let opens : OpensAs old.phase byte (Read Plain) = λ sep draft count sure fits. unquoted-opens sep byte count old.phase draft u (other 34 (other_byte old.sep 34 old.separates refl)) (other 10 (other_byte old.sep 10 old.separates refl)) (other 13 (other_byte old.sep 13 old.separates refl)) fits in
     fed-to old new byte bytes Plain Field (To Field) opens (λ fits. plain-at_sep old.sep byte old.draft new.draft (Ok (To Field)) is (refl, e, f)) refl same phase size stands
+
+-- the line feed after an unquoted field
+
+line-opens : (sep byte count : ℕ) (phase : Phase) (draft : Drafted) → in_unquoted phase ≡ true → byte ≢ 34 → Fits phase draft count → Opens sep phase draft count byte (Read Plain)
+line-opens sep byte count Input draft u q fits = absurd (both_ways false refl u)
+line-opens sep byte count MarkOne draft u q fits = absurd (both_ways false refl u)
+line-opens sep byte count MarkTwo draft u q fits = absurd (both_ways false refl u)
+line-opens sep byte count Record draft u q fits = absurd (both_ways false refl u)
+line-opens sep byte count RecordCr draft u q fits = absurd (both_ways false refl u)
+line-opens sep byte count (Inside Field) draft u q fits = (tt, λ all more. ap (by_record (records_from sep all) all (count + length (byte ∷ more))) (field-plain sep byte draft more fits q))
+line-opens sep byte count (Inside Plain) draft u q fits = (tt, λ all more. refl)
+line-opens sep byte count (Inside PlainCr) draft u q fits = absurd (both_ways false refl u)
+line-opens sep byte count (Inside Quoted) draft u q fits = absurd (both_ways false refl u)
+line-opens sep byte count (Inside QuoteInQuoted) draft u q fits = absurd (both_ways false refl u)
+line-opens sep byte count (Inside ClosedCr) draft u q fits = absurd (both_ways false refl u)
+line-opens sep byte count (Refused fault) draft u q fits = absurd (both_ways false refl u)
+
+pub fed-line : (old new : Cutter) (byte : ℕ) (bytes : List ℕ) (fields : List (List ℕ)) → in_unquoted old.phase ≡ true → byte ≡ 10 → fields ≡ old.draft.fields ++ (old.draft.field ++ []) ∷ [] → old.count < 65536 → new.sep ≡ old.sep → HasBegun Record new → StandsFor old old.sep bytes → EndsRecord old.sep bytes (byte ∷ []) fields new
+fed-line old new byte bytes fields u is e short same begun stands =
+    let opens : OpensAs old.phase byte (Read Plain) = λ sep draft count sure fits. line-opens sep byte count old.phase draft u (λ q. omega arith) fits in
+    fed-end old new byte bytes Plain EndRecord old.draft fields opens (λ fits more. rw is (plain-at_line_feed old.sep old.draft old.separates more)) refl e short same begun stands
 
 -- the same of a front part of a slice
 pub part-goes_on : (sep : ℕ) (before bytes : List ℕ) (size : ℕ) (new : Cutter) (result : Result ℕ CutFault) → IfOk result (λ run. run ≤ length (take size bytes)) → IfOk result (λ run. GoesOn sep before (take run (take size bytes)) [] new) → IfOk result (λ run. GoesOn sep before (take run bytes) [] new)

@@ -49,19 +49,29 @@ Moves sep place old byte (Err RecordTooLong) new = ⊥
 Moves sep place old byte (Err OpenQuote) new = ⊥
 Moves sep place old byte (Err Memory) new = Unit {0}
 
--- the next byte is of an unquoted field, unless it is a quote or a byte of a line break
+-- the next byte stands in an unquoted field or at the beginning of a field
+abbrev pub in_unquoted : Phase → Bool
+in_unquoted Input = false
+in_unquoted MarkOne = false
+in_unquoted MarkTwo = false
+in_unquoted Record = false
+in_unquoted RecordCr = false
+in_unquoted (Inside AtField) = true
+in_unquoted (Inside Plain) = true
+in_unquoted (Inside PlainCr) = false
+in_unquoted (Inside Quoted) = false
+in_unquoted (Inside QuoteInQuoted) = false
+in_unquoted (Inside ClosedCr) = false
+in_unquoted (Refused fault) = false
+
+-- the same, or the next byte begins a record
 abbrev pub is_unquoted : Phase → Bool
 is_unquoted Input = false
 is_unquoted MarkOne = false
 is_unquoted MarkTwo = false
 is_unquoted Record = true
 is_unquoted RecordCr = false
-is_unquoted (Inside AtField) = true
-is_unquoted (Inside Plain) = true
-is_unquoted (Inside PlainCr) = false
-is_unquoted (Inside Quoted) = false
-is_unquoted (Inside QuoteInQuoted) = false
-is_unquoted (Inside ClosedCr) = false
+is_unquoted (Inside place) = in_unquoted (Inside place)
 is_unquoted (Refused fault) = false
 
 -- by the grammar, these bytes all belong to the field, and the next one stands at this place

@@ -5,12 +5,12 @@ ghost use Rattle.words.specs.Separators.{is_separator};
 ghost use Rattle.record_cut.specs.Drafted.{size_of};
 ghost use Rattle.record_cut.specs.declared.cutter.TheConstants.{LONGEST};
 
-use crate::bytes::{before_quote, before_special};
+use crate::bytes::{LINE_FEED, before_quote, before_special};
 use crate::draft::Draft;
 use crate::fault::CutFault;
 use crate::fields::Fields;
 use crate::phase::{Ending, Move, Opening, Phase, Place};
-use crate::place::{ending, opening, read};
+use crate::place::{ending, in_unquoted, opening, read};
 use crate::taken::Taken;
 use std::alloc::Global;
 
@@ -133,7 +133,7 @@ impl Cutter {
         answer
     }
 
-    /// Reads the ordinary bytes that come first, and the byte after them.
+    /// Reads the bytes that come first and only go on with the record, and the byte after them.
     fn feed_run(&mut self, bytes: &[u8]) -> Taken
         requires { 0 < length bytes.now }
         ensures feeds { (sep : ℕ) (before : List ℕ)
@@ -164,7 +164,26 @@ impl Cutter {
         }
         Taken {
             count: run + 1,
-            answer: self.feed(bytes[run]),
+            answer: self.feed_after(bytes[run]),
+        }
+    }
+
+    /// Reads the byte after a run, as `feed` does. Mostly it is the line feed after an unquoted field.
+    fn feed_after(&mut self, byte: u8) -> Result<Option<Fields>, CutFault>
+        ensures feeds { (sep : ℕ) (before : List ℕ)
+            → StandsFor self.old sep before → Feeds sep before (byte ∷ []) result self.new }
+        ensures refuses { IfErr result (HasRefused self.new) }
+        ensures refused { (fault : CutFault) → HasRefused self.old fault → result ≡ Err fault }
+    {
+        if byte != LINE_FEED || !in_unquoted(self.phase) || self.count >= LONGEST {
+            return self.feed(byte);
+        }
+        match self.end_record(Phase::Record, b"") {
+            Ok(fields) => Ok(Some(fields)),
+            Err(fault) => {
+                self.phase = Phase::Refused(fault);
+                Err(fault)
+            }
         }
     }
 

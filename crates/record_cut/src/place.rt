@@ -1,15 +1,27 @@
 //! What a byte does at each place of a record.
 
-ghost use Rattle.std.specs.Prelude.{◌+◌, ◌<◌, ◌≤◌, ◌^◌, ℕ, IsTrue};
+ghost use Rattle.std.specs.Prelude.{◌≡◌, ◌+◌, ◌<◌, ◌≤◌, ◌^◌, ℕ, IsTrue};
 ghost use Rattle.words.specs.Separators.{is_separator};
 ghost use Rattle.record_cut.specs.Drafted.{Drafted, size_of};
 ghost use Rattle.record_cut.specs.Resumed.{FitsPlace, Fits};
-ghost use Rattle.record_cut.specs.Moves.{AddsByte, EndsField, Moves, Opens, Leaves};
+ghost use Rattle.record_cut.specs.Moves.{in_unquoted, AddsByte, EndsField, Moves, Opens, Leaves};
 
 use crate::bytes::{CARRIAGE_RETURN, LINE_FEED, MARK, QUOTE};
 use crate::draft::Draft;
 use crate::fault::CutFault;
 use crate::phase::{Ending, Move, Opening, Phase, Place};
+
+/// Whether the next byte stands in an unquoted field or at the beginning of a field.
+#[inline]
+pub(crate) fn in_unquoted(phase: Phase) -> bool
+    ensures { result ≡ in_unquoted phase }
+{
+    match phase {
+        Phase::Inside(Place::Field) => true,
+        Phase::Inside(Place::Plain) => true,
+        _ => false,
+    }
+}
 
 /// What the byte is to be taken for after what has been read of the record.
 pub(crate) fn opening(phase: Phase, byte: u8) -> Opening

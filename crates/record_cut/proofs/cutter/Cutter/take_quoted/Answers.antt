@@ -1,4 +1,4 @@
-use Rattle.std.proofs.Common.{◌≡◌, ◌+◌, ◌∙◌, refl, sym, ap, [], take, length, arith}
+use Rattle.std.proofs.Common.{◌≡◌, ◌+◌, refl, [], take, length, arith}
 use Rattle.std.proofs.lemmas.List.{length-take-le}
 use Rattle.record_cut.specs.Feeds.{GoesOn}
 use Rattle.record_cut.specs.declared.phase.Place.TheVariants.{Quoted}
