@@ -32,7 +32,7 @@ pub struct Cutter {
 }
 
 impl Cutter {
-    ghost use Rattle.std.specs.Prelude.{◌≡◌, ℕ, ◌+◌, ◌<◌, ◌≤◌, true, List, [], ◌∷◌, ◌++◌, take, length, Option, Some, None, Result, Ok, Err, IsTrue, IfOk, OnOk, IfErr};
+    ghost use Rattle.std.specs.Prelude.{◌≡◌, ℕ, ◌+◌, ◌<◌, ◌≤◌, true, false, List, [], ◌∷◌, ◌++◌, take, length, Option, Some, None, Result, Ok, Err, IsTrue, IfOk, OnOk, IfErr};
     ghost use Rattle.words.specs.Separators.{is_separator};
     ghost use Rattle.record_cut.specs.StandsFor.{StandsFor, HasRefused, HasBegun};
     ghost use Rattle.record_cut.specs.Feeds.{GoesOn, Feeds, Ends, taken_after};
