@@ -55,7 +55,7 @@ pub sample-requires : goal.sample-requires
 sample-requires g c =
     let inner : c.in-Some-Sample.field-0 ≡ Sample c.in-Some-Sample.rows c.in-Some-Sample.seed = rw c.in-Some-Sample.is at c.in-Some-Sample.field-0-is in
     let asked : c.args.command ≡ Some (Sample c.in-Some-Sample.rows c.in-Some-Sample.seed) = c.in-Some-Sample.is ∙ ap Some inner in
-    let limits : HasLimits (Some (Sample c.in-Some-Sample.rows c.in-Some-Sample.seed)) = subst HasLimits asked c.requires in
+    let limits : HasLimits (Some (Sample c.in-Some-Sample.rows c.in-Some-Sample.seed)) = subst HasLimits asked c.requires.limits in
     record { rows_least = limits.0; rows_most = limits.1; seed = limits.2 }
 
 pub returns-in-None-clause-answer : goal.returns-in-None-clause-answer

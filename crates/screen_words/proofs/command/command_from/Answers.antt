@@ -2,7 +2,7 @@ use Rattle.std.proofs.Common.{ap, ◌∙◌}
 use Rattle.std.specs.Prelude.{string_bytes}
 use Rattle.screen_words.specs.Command.{file_command}
 use Rattle.screen_words.proofs.FileWords.{four}
-use Rattle.screen_tool.proofs.command.command_from.Goals as goal
+use Rattle.screen_words.proofs.command.command_from.Goals as goal
 
 pub returns-in-len4 : goal.returns-in-len4
 returns-in-len4 c =
