@@ -18,6 +18,9 @@ use Rattle.screen_words.specs.Faults.{online_ending}
 use Rattle.screen_words.specs.declared.ends.Inputs.{Inputs}
 use Rattle.screen_words.specs.declared.status.Ending.TheVariants.{Ended}
 use Rattle.screen_words.specs.declared.status.Outcome.{Outcome}
+use Rattle.screen_words.specs.declared.status.Outcome.TheVariants.{ReadingsRefused}
+use Rattle.series_rows.specs.Faults.{of_the_file}
+use Rattle.series_rows.specs.declared.fault.TableCause.TheVariants.{FileTooLong}
 
 -- ---- the laws of outputs, as the functions of online_repair promise them
 
@@ -110,6 +113,9 @@ module _ (law : RefusalsStay) (rules : Rules) where
       let q = law rules false front p.0 out now fault is refused (subst (λ (b : List ℕ). IsOutput rules false b now) p.1 is_now) in
       none_some (sym unrefused ∙ q.0)
 
+abbrev beyond_answer : List ℕ → Answer
+beyond_answer = streamed (ReadingsRefused (of_the_file FileTooLong)) (Begun (MOST_BYTES + 1))
+
 -- ---- a part of all answers is one only, if it is no part of how far the readings are read
 
 module _ {B : Type 0} (part : Answer → B) (same_part : (outcome : Outcome) (one other : Extent) (text : List ℕ) → part (streamed outcome one text) ≡ part (streamed outcome other text))
@@ -146,7 +152,7 @@ module _ {B : Type 0} (part : Answer → B) (same_part : (outcome : Outcome) (on
     too_much : IsTooMuch rules readings one → IsTooMuch rules readings other → part one ≡ part other
     too_much p q =
         let same : p.out ≡ q.out = outputs rules false (take MOST_BYTES readings) p.out q.out p.is_output q.is_output in
-        ap part p.answer_is ∙ (ap (λ (o : Output). part (streamed _ _ o.text)) same ∙ sym (ap part q.answer_is))
+        ap part p.answer_is ∙ (ap (λ (o : Output). part (beyond_answer o.text)) same ∙ sym (ap part q.answer_is))
 
   after_start_one : (rules : Rules) (readings : List ℕ) (found : Option ℕ) (one other : Answer) → AfterStart rules readings found one → AfterStart rules readings found other → part one ≡ part other
   after_start_one rules readings (Some rule) one other p q = ap part (p ∙ sym q)

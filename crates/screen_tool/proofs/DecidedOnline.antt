@@ -103,10 +103,10 @@ module _ {S K : Type 0} (left : S → Option (List ℕ)) (source_faults : S → 
       let told : AreTold left (roles_of (Some Online)) ins bytes = record { rules = λ _. rules_told; readings = λ _. readings_told; cert = λ used. absurd (used refl) } in
       let own : (answer : Answer) → IsAnswered left source_faults AnswersOnline ins now answer → IsOf out answer =
       λ answer q.
-          let given : AnswersOnline bytes answer = answered_told left source_faults rest (Some Online) ins now bytes answer told q in
-          let start : AfterStart rules readings (not_online rules) answer =
-          after_accepted longest_rules ReadsFile rules_too_long rules_refused rules_one rule_bytes rules (λ r. AfterStart r readings (not_online r)) answer (rules_short rule_bytes rules spells) spells given in
-          start_is_of outputs law rules readings out answer few is (subst (λ (found : Option ℕ). AfterStart rules readings found answer) online start)
+      let given : AnswersOnline bytes answer = answered_told left source_faults rest (Some Online) ins now bytes answer told q in
+      let start : AfterStart rules readings (not_online rules) answer =
+      after_accepted longest_rules ReadsFile rules_too_long rules_refused rules_one rule_bytes rules (λ r. AfterStart r readings (not_online r)) answer (rules_short rule_bytes rules spells) spells given in
+      start_is_of outputs law rules readings out answer few is (subst (λ (found : Option ℕ). AfterStart rules readings found answer) online start)
       in
       record {
         whole = λ none. unless ins now outs outs_now status.Done how p (λ answer q. due_whole out answer (own answer q) none);

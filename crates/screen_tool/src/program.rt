@@ -126,10 +126,10 @@ fn ending_of<S: Source, K: Sink, V: Solver>(
     ensures none_leaves { command ≡ None → solver.new ≡ solver.old }
     ensures most_stays { V.most solver.new ≡ V.most solver.old }
 {
-    if command == Some(Command::Online) {
-        return online(alloc, ins, outs);
+    match command {
+        Some(Command::Online) => online(alloc, ins, outs),
+        _ => ending_by_reply(alloc, command, ins, outs, solver),
     }
-    ending_by_reply(alloc, command, ins, outs, solver)
 }
 
 /// Does what a command asks for that makes its texts before it writes them.
@@ -193,7 +193,7 @@ fn reply_of<S: Source, V: Solver>(
         Some(Command::Check) => check(alloc, ins),
         Some(Command::Report) => report(alloc, ins),
         Some(Command::Sample { rows, seed }) => sample(alloc, rows, seed, solver),
-        Some(Command::Online) | None => Err(Ending::Ended(Outcome::Usage)),
+        None | Some(Command::Online) => Err(Ending::Ended(Outcome::Usage)),
     }
 }
 
