@@ -24,6 +24,7 @@ pub mod Own
 pub mod Pieces
 pub mod Public
 pub mod Readings
+pub mod Remaining
 pub mod Repairing
 pub mod Round
 pub mod Rounds

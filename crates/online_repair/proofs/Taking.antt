@@ -70,7 +70,7 @@ header_stops rules read header engine new_engine fault old new may memory text =
 
 -- ---- a row that is refused
 
-and_false : (a : Bool) → (a && false) ≡ false
+pub and_false : (a : Bool) → (a && false) ≡ false
 and_false true = refl
 and_false false = refl
 
@@ -107,7 +107,7 @@ row_refused rules header ended rows row more last fault engine keeps none refuse
 
 -- ---- a row that makes one ready that leaves the range, or at which memory runs out
 
-large_output : (rules : Rules) (header : HeaderView) (ended : Bool) (rows more : List RowView) (last : Option OnlineFault) (fault : OnlineFault) → accept rules header [] rows None ≡ all_of rows → Placed [] (rows ++ more) → leaving rules header false 1 [] rows ≡ Some fault
+pub large_output : (rules : Rules) (header : HeaderView) (ended : Bool) (rows more : List RowView) (last : Option OnlineFault) (fault : OnlineFault) → accept rules header [] rows None ≡ all_of rows → Placed [] (rows ++ more) → leaving rules header false 1 [] rows ≡ Some fault
     → IsStopped rules header rows fault (Whole rules header ended (rows ++ more) last)
 large_output rules header ended rows more last fault none placed leaves =
     let accepted = accept rules header [] (rows ++ more) last in

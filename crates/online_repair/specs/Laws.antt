@@ -1,5 +1,6 @@
--- To be believed: what the repaired readings of the rows that are accepted are good for.
-use Rattle.std.specs.Prelude.{◌≡◌, ℕ, Bool, ℤ, ◌-ℤ◌, ◌≤ℤ◌, List, [], ◌∷◌, ◌++◌, reverse, Option, Some, None, option_map}
+-- To be believed: what the repaired readings of the rows that are accepted are good for; and that the output of a file is one
+-- only, and a refusal stays.
+use Rattle.std.specs.Prelude.{◌≡◌, ℕ, Bool, false, ℤ, ◌-ℤ◌, ◌≤ℤ◌, List, [], ◌∷◌, ◌++◌, reverse, Option, Some, None, option_map}
 use Rattle.rule_file.specs.declared.rules.Rules.{Rules}
 use Rattle.rule_file.specs.declared.rules.SpeedRule.{SpeedRule}
 use Rattle.series_rows.specs.Header.{HeaderView}
@@ -10,8 +11,9 @@ use Rattle.online_values.specs.Laws.{CostsLeast}
 use Rattle.online_values.specs.Results.{greatest_step, least_step}
 use Rattle.online_values.specs.Sensor.{speed_of}
 use Rattle.online_repair.specs.Accepted.{accept}
-use Rattle.online_repair.specs.Output.{Reads}
+use Rattle.online_repair.specs.Output.{IsOutput, Output, Reads}
 use Rattle.online_repair.specs.Rows.{keys_in, reading_in, repaired, rule_in}
+use Rattle.online_repair.specs.declared.fault.OnlineFault.{OnlineFault}
 use Rattle.online_repair.specs.declared.fault.OnlineFault.TheVariants.{Table}
 
 abbrev pub reading_of : ℕ → ℤ → RowReading
@@ -53,3 +55,14 @@ RepairsCostLeast = OfAccepted CostLeast
 
 abbrev pub RepairsKeepRates : Type 0
 RepairsKeepRates = OfAccepted KeepRates
+
+-- the bytes of a file have one output only
+abbrev pub OutputsAreOne : Type 0
+OutputsAreOne = (rules : Rules) (ended : Bool) (bytes : List ℕ) (one other : Output) → IsOutput rules ended bytes one → IsOutput rules ended bytes other → one ≡ other
+
+-- What is refused at a front of a file is refused whatever follows, and whether it has ended: for the same reason, and with
+-- the same text.
+abbrev pub RefusalsStay : Type 0
+RefusalsStay =
+    (rules : Rules) (ended : Bool) (front rest : List ℕ) (out now : Output) (fault : OnlineFault) → IsOutput rules false front out → out.fault ≡ Some fault → IsOutput rules ended (front ++ rest) now
+    → (now.fault ≡ Some fault) × (now.text ≡ out.text)

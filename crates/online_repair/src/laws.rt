@@ -1,5 +1,23 @@
-//! Laws of the repaired rows. The contract of a function is the law; the call does nothing.
-ghost use Rattle.online_repair.specs.Laws.{RepairsCostLeast, RepairsKeepRates};
+//! Laws of the repaired rows and of the output. The contract of a function is the law; the call does nothing.
+ghost use Rattle.online_repair.specs.Laws.{OutputsAreOne, RefusalsStay, RepairsCostLeast, RepairsKeepRates};
+
+use series_csv::{one_answer, read_stays};
+
+/// The bytes of a file have one output only.
+pub fn outputs_are_one()
+    ensures { OutputsAreOne }
+{
+    one_answer();
+}
+
+/// What is refused at a front of a file is refused whatever follows, and whether it has ended: for the same reason, and
+/// with the same text.
+pub fn refusals_stay()
+    ensures { RefusalsStay }
+{
+    one_answer();
+    read_stays();
+}
 
 /// In every file, each reading that a rule speaks of is repaired to a value of the least local cost: of all whole numbers,
 /// or, where the previous reading of the sensor lies within the window, of all that the steps allow after its value.
