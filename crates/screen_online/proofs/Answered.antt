@@ -1,6 +1,7 @@
 -- The answers of `online`: they come to one outcome and one text, and rest on what they read.
 use Rattle.std.proofs.Common.{◌≡◌, ◌≢◌, ◌⊎◌, inl, inr, ℕ, ◌<◌, ◌≤◌, ◌+◌, Bool, true, false, List, [], ◌∷◌, ◌++◌, length, take, drop, Option, Some, None, refl, sym, ap, subst, ◌∙◌, arith}
 use Rattle.std.proofs.lemmas.List.{append_assoc, length-append, length-take-le, take-append-drop, take-append-le}
+use Rattle.online_repair.specs.Laws.{OutputsAreOne, RefusalsStay}
 use Rattle.online_repair.specs.NotOnline.{not_online}
 use Rattle.online_repair.specs.Output.{IsOutput, Output}
 use Rattle.online_repair.specs.declared.fault.OnlineFault.{OnlineFault}
@@ -21,16 +22,6 @@ use Rattle.screen_words.specs.declared.status.Outcome.{Outcome}
 use Rattle.screen_words.specs.declared.status.Outcome.TheVariants.{ReadingsRefused}
 use Rattle.series_rows.specs.Faults.{of_the_file}
 use Rattle.series_rows.specs.declared.fault.TableCause.TheVariants.{FileTooLong}
-
--- ---- the laws of outputs, as the functions of online_repair promise them
-
-abbrev pub OutputsAreOne : Type 0
-OutputsAreOne = (rules : Rules) (ended : Bool) (bytes : List ℕ) (one other : Output) → IsOutput rules ended bytes one → IsOutput rules ended bytes other → one ≡ other
-
-abbrev pub RefusalsStay : Type 0
-RefusalsStay =
-    (rules : Rules) (ended : Bool) (front rest : List ℕ) (out now : Output) (fault : OnlineFault) → IsOutput rules false front out → out.fault ≡ Some fault → IsOutput rules ended (front ++ rest) now
-    → (now.fault ≡ Some fault) × (now.text ≡ out.text)
 
 -- ---- two fronts of a list
 

@@ -32,7 +32,8 @@ use Rattle.screen_tool.specs.Global.{AnswersGlobal, AnswersGlobalBy, AnswersTabl
 use Rattle.screen_tool.specs.Sample.{summary_of, unread}
 use Rattle.screen_steps.proofs.AfterFile.{after_follows, after_has, after_one, after_rests}
 use Rattle.screen_steps.proofs.BothFiles.{begun_not_unread, both_accepted, both_follow, both_have, both_one, both_rest, bounds_few, bounds_follow, bounds_have, bounds_one, whole_not_unread}
-use Rattle.screen_online.proofs.Answered.{OutputsAreOne, RefusalsStay, online_one, online_rests}
+use Rattle.online_repair.specs.Laws.{OutputsAreOne, RefusalsStay}
+use Rattle.screen_online.proofs.Answered.{online_one, online_rests}
 use Rattle.screen_online.specs.Online.{streamed}
 use Rattle.screen_words.specs.declared.status.Outcome.{Outcome}
 use Rattle.screen_tool.proofs.SampleLaws.{sample_any, sample_one, summed_out, summed_outcome}

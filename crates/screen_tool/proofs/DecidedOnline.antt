@@ -1,6 +1,6 @@
 -- The headline of `online`, from what was performed.
 use Rattle.std.proofs.Common.{◌≡◌, ◌⊎◌, inl, inr, ℕ, ◌≤◌, List, [], length, true, Option, Some, None, Ok, refl, sym, ap, subst, ◌∙◌}
-use Rattle.online_repair.specs.Laws.{RepairsCostLeast, RepairsKeepRates}
+use Rattle.online_repair.specs.Laws.{OutputsAreOne, RefusalsStay, RepairsCostLeast, RepairsKeepRates}
 use Rattle.online_repair.specs.NotOnline.{not_online}
 use Rattle.online_repair.specs.Output.{IsOutput, Output}
 use Rattle.online_repair.specs.declared.fault.OnlineFault.{OnlineFault}
@@ -10,7 +10,7 @@ use Rattle.rule_file.specs.declared.read.TheConstants.{LONGEST as longest_rules}
 use Rattle.rule_file.specs.declared.rules.Rules.{Rules}
 use Rattle.screen_io.specs.Faults.{Rose}
 use Rattle.screen_io.specs.Sink.{Gains}
-use Rattle.screen_online.proofs.Answered.{OutputsAreOne, RefusalsStay, stays}
+use Rattle.screen_online.proofs.Answered.{stays}
 use Rattle.screen_online.specs.Online.{AfterStart, AnswersOnline, PerformsOnline, ending_for}
 use Rattle.screen_online.specs.declared.online.TheConstants.{MOST_BYTES}
 use Rattle.screen_steps.proofs.AfterFile.{after_accepted, more_and_not}
