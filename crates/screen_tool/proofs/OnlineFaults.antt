@@ -1,9 +1,9 @@
 -- What the output of a file is refused for, is a fault of its readings.
-use Rattle.std.proofs.Common.{◌≡◌, ℕ, suc, Bool, true, false, List, [], ◌∷◌, ◌++◌, Option, Some, None, IfSome, if◌then◌else◌, ap, subst, sym}
-use Rattle.std.specs.Prelude.{option_map}
+use Rattle.std.proofs.Common.{◌≡◌, ℕ, suc, Bool, true, false, ◌&&◌, List, [], ◌∷◌, ◌++◌, length, Option, Some, None, IfSome, if◌then◌else◌, ap, subst, sym}
+use Rattle.std.specs.Prelude.{is_none, option_map}
 use Rattle.std.specs.Option.{option_or}
-use Rattle.online_repair.specs.Accepted.{Accepted, accept, refusal, unless_refused}
-use Rattle.online_repair.specs.Output.{IsOutput, Output, leaving, output_with}
+use Rattle.online_repair.specs.Accepted.{Accepted, accept, greatest_window, held, is_full, refusal, unless_refused, without_step}
+use Rattle.online_repair.specs.Output.{IsOutput, Output, is_due, leaving, output_with, too_large}
 use Rattle.online_repair.specs.declared.fault.OnlineFault.{OnlineFault}
 use Rattle.online_repair.specs.declared.fault.OnlineFault.TheVariants.{NotOnline, Table, WindowFull, NoWholeStep, LeavesRange, Memory}
 use Rattle.rule_file.specs.declared.rules.Rules.{Rules}
@@ -44,14 +44,24 @@ table_all : (fault : Option TableFault) → AllOf (option_map Table fault)
 table_all (Some fault) = tt
 table_all None = tt
 
+leaving_step : (due : Bool) (number : ℕ) (reading : Option RowReading) (others : Option OnlineFault) → AllOf others
+    → AllOf (if due then option_or (option_map (λ (r : RowReading). LeavesRange number r.col) reading) others else others)
+leaving_step due number reading others p =
+    let first = option_map (λ (r : RowReading). LeavesRange number r.col) reading in
+    if_all due (option_or first others) others (or_all first others (leaves_all number reading) p) p
+
 leaving_all : (rules : Rules) (header : HeaderView) (all : Bool) (number : ℕ) (before rows : List RowView) → AllOf (leaving rules header all number before rows)
 leaving_all rules header all number before [] = tt
 leaving_all rules header all number before (row ∷ later) =
-    let others = leaving_all rules header all (suc number) (row ∷ before) later in
-    if_all _ _ _ (or_all _ _ (leaves_all number _) others) others
+    leaving_step (is_due rules header all row later) number (too_large rules header before row later) (leaving rules header all (suc number) (row ∷ before) later)
+    (leaving_all rules header all (suc number) (row ∷ before) later)
+
+refusal_step : (full : Bool) (number : ℕ) (reading : Option RowReading) → AllOf (if full then Some (WindowFull number) else option_map (λ (r : RowReading). NoWholeStep number r.col) reading)
+refusal_step full number reading = if_all full (Some (WindowFull number)) (option_map (λ (r : RowReading). NoWholeStep number r.col) reading) tt (steps_all number reading)
 
 refusal_all : (rules : Rules) (header : HeaderView) (before : List RowView) (row : RowView) → AllOf (refusal rules header before row)
-refusal_all rules header before row = if_all _ _ _ tt (steps_all _ _)
+refusal_all rules header before row =
+    refusal_step (is_full rules.format.hold (greatest_window rules.speeds) (held (greatest_window rules.speeds) before) row) (suc (length before)) (without_step rules header before row)
 
 unless_all : (before : List RowView) (fault : Option OnlineFault) (others : Accepted) → AllOf fault → AllOf others.fault → AllOf (unless_refused before fault others).fault
 unless_all before None others p q = q
@@ -64,7 +74,10 @@ accept_all rules header before (row ∷ rows) last p =
 
 with_all : (rules : Rules) (ended : Bool) (header : Option HeaderView) (rows : List RowView) (fault : Option OnlineFault) → AllOf fault → AllOf (output_with rules ended header rows fault).fault
 with_all rules ended None rows fault p = p
-with_all rules ended (Some header) rows fault p = or_all _ _ (leaving_all rules header _ 1 [] _) (accept_all rules header [] rows fault p)
+with_all rules ended (Some header) rows fault p =
+    let accepted = accept rules header [] rows fault in
+    let all = ended && is_none accepted.fault in
+    or_all (leaving rules header all 1 [] accepted.rows) accepted.fault (leaving_all rules header all 1 [] accepted.rows) (accept_all rules header [] rows fault p)
 
 pub of_readings : (rules : Rules) (ended : Bool) (bytes : List ℕ) (out : Output) (fault : OnlineFault) → IsOutput rules ended bytes out → out.fault ≡ Some fault → OfReadings fault
 of_readings rules ended bytes out fault is refused =
