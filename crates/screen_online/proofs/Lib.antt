@@ -1,0 +1,5 @@
+pub mod Handing
+pub mod Performing
+pub mod Reading
+pub mod Underway
+pub mod Written

@@ -1,6 +1,12 @@
 //! The command `online`: it repairs readings as they come, and writes each row as soon as it is ready.
-ghost use Rattle.std.specs.Prelude.{◌≡◌, ◌≢◌};
+ghost use Rattle.std.specs.Prelude.{◌≡◌, ◌≢◌, ◌<◌, ◌≤◌, List, [], ℕ, true, false, take, IfOk, OnOk, OnErr};
+ghost use Rattle.online_repair.specs.StandsFor.{HasEnded, StandsFor};
+ghost use Rattle.rule_file.specs.declared.rules.Rules.{Rules};
+ghost use Rattle.screen_io.specs.Faults.{Rose};
+ghost use Rattle.screen_io.specs.Source.{IsAtEnd, Takes};
 ghost use Rattle.screen_online.specs.Online.{PerformsOnline};
+ghost use Rattle.screen_online.specs.Steps.{Hands, HandsOn, Repairs};
+ghost use Rattle.series_rows.specs.Faults.{of_the_file};
 
 use online_repair::{Online, OnlineFault};
 use rule_file::Rules;
@@ -42,37 +48,63 @@ fn repair_all<S: Source, K: Sink>(
     rules: &Rules,
     readings: &mut S,
     out: &mut K,
-) -> Result<(), Ending> {
-    let mut online = Online::start(alloc, rules)?;
+) -> Result<(), Ending>
+    ensures { Repairs S.left S.faults K.held K.faults rules.now readings.old readings.new out.old out.new result }
+{
+    let mut online = match Online::start(alloc, rules) {
+        Ok(online) => online,
+        Err(fault) => return Err(Ending::from(fault)),
+    };
     let mut piece = [0u8; PIECE];
     let mut text = Vec::new(alloc);
     let mut room = MOST_BYTES;
     while room > 0 {
-        let count = read_piece(readings, &mut piece, room)?;
+        let count = match read_piece(readings, &mut piece, room) {
+            Ok(count) => count,
+            Err(Failed) => return Err(Ending::ReadFault),
+        };
         if count == 0 {
             return finish(&mut online, &mut text, out);
         }
-        feed(&mut online, &piece[..count], &mut text, out)?;
-        room -= count as u64;
+        match feed(&mut online, &piece[..count], &mut text, out) {
+            Ok(()) => room -= count as u64,
+            Err(ending) => return Err(ending),
+        }
     }
-    end_at_limit(&mut online, readings, &mut text, out)
-}
-
-/// Reads the next bytes, of which no more than `room` are wanted, and answers how many came.
-fn read_piece<S: Source>(
-    readings: &mut S,
-    piece: &mut [u8; PIECE],
-    room: u64,
-) -> Result<usize, Ending> {
-    let wanted = wanted_of(room);
-    match readings.read(&mut piece[..wanted]) {
-        Ok(count) => Ok(count),
+    // As many bytes came as may: the readings have ended with them, or there are too many.
+    match read_piece(readings, &mut piece, 1) {
+        Ok(0) => finish(&mut online, &mut text, out),
+        Ok(_) => Err(too_many_bytes()),
         Err(Failed) => Err(Ending::ReadFault),
     }
 }
 
+/// Reads the next bytes into the front of a piece, of which no more than `room` are wanted, and answers how many came.
+fn read_piece<S: Source>(
+    readings: &mut S,
+    piece: &mut [u8; PIECE],
+    room: u64,
+) -> Result<usize, Failed>
+    requires { 0 < room }
+    ensures room { IfOk result (λ count. count ≤ room) }
+    ensures piece { IfOk result (λ count. count ≤ PIECE) }
+    ensures taken { IfOk result (λ count. Takes (S.left readings.old) (take count piece.new) (S.left readings.new)) }
+    ensures at_end { IfOk result (λ count. count ≡ 0 → IsAtEnd (S.left readings.new)) }
+    ensures unfailed { OnOk result (S.faults readings.new ≡ S.faults readings.old) }
+    ensures kept { OnErr result (S.left readings.new ≡ S.left readings.old) }
+    ensures failed { OnErr result (Rose (S.faults readings.old) (S.faults readings.new)) }
+{
+    let wanted = wanted_of(room);
+    readings.read(&mut piece[..wanted])
+}
+
 /// How many bytes to ask for where no more than `room` are wanted.
-fn wanted_of(room: u64) -> usize {
+fn wanted_of(room: u64) -> usize
+    requires { 0 < room }
+    ensures some { 0 < result }
+    ensures piece { result ≤ PIECE }
+    ensures room { result ≤ room }
+{
     if room < PIECE as u64 {
         room as usize
     } else {
@@ -86,48 +118,53 @@ fn feed<K: Sink>(
     piece: &[u8],
     text: &mut Vec<u8>,
     out: &mut K,
-) -> Result<(), Ending> {
+) -> Result<(), Ending>
+    requires { ¬ HasEnded online.old }
+    ensures { (rules : Rules) (came : List ℕ) → StandsFor online.old rules false came
+        → Hands K.held K.faults rules false came piece.now online.new text.new.items out.old out.new result }
+{
     text.clear();
     let fed = online.feed(piece, text);
-    if matches!(fed, Err(OnlineFault::Memory)) {
-        return Err(Ending::Memory);
-    }
-    write_ready(out, text.as_slice())?;
-    Ok(fed?)
+    write_ready(fed, text.as_slice(), out)
 }
 
 /// Tells the repair that the readings have ended, and writes the rest.
-fn finish<K: Sink>(online: &mut Online<'_>, text: &mut Vec<u8>, out: &mut K) -> Result<(), Ending> {
+fn finish<K: Sink>(online: &mut Online<'_>, text: &mut Vec<u8>, out: &mut K) -> Result<(), Ending>
+    requires { ¬ HasEnded online.old }
+    ensures { (rules : Rules) (came : List ℕ) → StandsFor online.old rules false came
+        → Hands K.held K.faults rules true came [] online.new text.new.items out.old out.new result }
+{
     text.clear();
     let ended = online.finish(text);
-    if matches!(ended, Err(OnlineFault::Memory)) {
-        return Err(Ending::Memory);
-    }
-    write_ready(out, text.as_slice())?;
-    Ok(ended?)
+    write_ready(ended, text.as_slice(), out)
 }
 
-/// As many bytes came as may: the readings have ended with them, or there are too many.
-fn end_at_limit<S: Source, K: Sink>(
-    online: &mut Online<'_>,
-    readings: &mut S,
-    text: &mut Vec<u8>,
+/// Writes what is ready, and hands on what the repair answered. Where memory ran out nothing is written.
+fn write_ready<K: Sink>(
+    answer: Result<(), OnlineFault>,
+    text: &[u8],
     out: &mut K,
-) -> Result<(), Ending> {
-    let mut next = [0u8; 1];
-    match readings.read(&mut next) {
-        Ok(0) => finish(online, text, out),
-        Ok(_) => Err(Ending::Ended(Outcome::ReadingsRefused(TableFault::of_the_file(
-            TableCause::FileTooLong,
-        )))),
-        Err(Failed) => Err(Ending::ReadFault),
+) -> Result<(), Ending>
+    ensures { HandsOn K.held K.faults answer text.now out.old out.new result }
+{
+    match answer {
+        Err(fault) if fault == OnlineFault::Memory => Err(Ending::Memory),
+        Err(fault) => match write_all_of(out, text) {
+            Ok(()) => Err(Ending::from(fault)),
+            Err(Failed) => Err(Ending::WriteFault),
+        },
+        Ok(()) => match write_all_of(out, text) {
+            Ok(()) => Ok(()),
+            Err(Failed) => Err(Ending::WriteFault),
+        },
     }
 }
 
-/// Writes what is ready, and hands it on.
-fn write_ready<K: Sink>(out: &mut K, text: &[u8]) -> Result<(), Ending> {
-    match write_all_of(out, text) {
-        Ok(()) => Ok(()),
-        Err(Failed) => Err(Ending::WriteFault),
-    }
+/// More bytes of readings came than may.
+fn too_many_bytes() -> Ending
+    ensures { result ≡ Ending.Ended (Outcome.ReadingsRefused (of_the_file TableCause.FileTooLong)) }
+{
+    Ending::Ended(Outcome::ReadingsRefused(TableFault::of_the_file(
+        TableCause::FileTooLong,
+    )))
 }
