@@ -67,3 +67,12 @@ module _ {K : Type 0} (held : K → Option (List ℕ)) (sink_faults : K → ℕ)
   hands rules ended came piece fed online text sink now (Err WriteFault) feeds handed = (fed, handed.0, feeds.1, handed.1)
   hands rules ended came piece fed online text sink now (Err Memory) feeds handed =
       let given = answered rules ended came piece fed (Err fault.Memory) online text handed.0 feeds in (given.1, handed.1)
+
+  -- the text was empty before, and the bytes that were written are those of the text
+  pub hands_text : (rules : Rules) (ended : Bool) (came piece : List ℕ) (fed : Result (Unit {0}) OnlineFault) (online : OnlineView) (old text seen : List ℕ) (sink now : K) (result : Result (Unit {0}) Ending)
+      → old ≡ [] → seen ≡ text → Feeds rules ended came piece fed online old text → HandsOn held sink_faults fed seen sink now result
+      → Hands held sink_faults rules ended came piece online text sink now result
+  hands_text rules ended came piece fed online old text seen sink now result empty same feeds handed =
+      let F : List ℕ → Type 0 = λ bytes. Feeds rules ended came piece fed online bytes text in
+      let H : List ℕ → Type 0 = λ bytes. HandsOn held sink_faults fed bytes sink now result in
+      hands rules ended came piece fed online text sink now result (subst F empty feeds) (subst H same handed)

@@ -92,8 +92,7 @@ module _ {S K : Type 0} (left : S → Option (List ℕ)) (source_faults : S → 
       let is = of_stream found g.came (not_online found) g.answer g.answers in
       let R : Extent → Type 0 = λ e. IsRead left source_faults e ins.rules rules q.0 in
       let C : Extent → Type 0 = λ e. IsRead left source_faults e ins.cert ins.cert [] in
-      let W : Option (List ℕ) → Type 0 = λ t. IsWritten held sink_faults t outs.cert outs.cert in
-      (
+      let W : Option (List ℕ) → Type 0 = λ t. IsWritten held sink_faults t outs.cert outs.cert in (
         g.answer,
         g.outcome_is,
         (

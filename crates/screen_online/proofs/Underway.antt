@@ -263,8 +263,8 @@ module _ {S K : Type 0} (left : S → Option (List ℕ)) (source_faults : S → 
         ended = ended;
         at_end = at_end;
         part = λ out is.
-        let I : List ℕ → Type 0 = λ bytes. IsOutput rules ended bytes out in
-        front_written held sink_faults before.out out text sink middle later (answers.1 refl before.out out before.is_output (subst I all_is is)) before.written same;
+            let I : List ℕ → Type 0 = λ bytes. IsOutput rules ended bytes out in
+            front_written held sink_faults before.out out text sink middle later (answers.1 refl before.out out before.is_output (subst I all_is is)) before.written same;
       }
 
   -- a piece was taken from the source, and the command ends at it

@@ -56,8 +56,7 @@ module _ {K : Type 0} (held : K → Option (List ℕ)) (sink_faults : K → ℕ)
   pub more_written : (before now : Output) (text : List ℕ) (sink between later : K) → Appends before now [] text
       → IsWritten held sink_faults (Some before.text) sink between → IsWritten held sink_faults (Some text) between later → IsWritten held sink_faults (Some now.text) sink later
   more_written before now text sink between later appends first second =
-      let G : List ℕ → Type 0 = λ bytes. Gains (held sink) bytes (held later) in
-      (
+      let G : List ℕ → Type 0 = λ bytes. Gains (held sink) bytes (held later) in (
         subst G (sym (text_is before now text appends)) (Gains-more (held sink) (held between) (held later) before.text text first.0 second.0),
         second.1 ∙ first.1,
       )
@@ -84,8 +83,7 @@ module _ {K : Type 0} (held : K → Option (List ℕ)) (sink_faults : K → ℕ)
   front_written before now text sink between later appends first same =
       let e : now.text ≡ before.text ++ (appends.added ++ appends.rest) = appends.output_is ∙ append_assoc before.text appends.added appends.rest in
       let G : List ℕ → Type 0 = λ bytes. Gains (held sink) bytes (held later) in
-      let H : K → Type 0 = λ k. Gains (held sink) before.text (held k) in
-      (
+      let H : K → Type 0 = λ k. Gains (held sink) before.text (held k) in (
         length before.text,
         begins_shorter before.text (appends.added ++ appends.rest) now.text e,
         subst G (sym (begins_with before.text (appends.added ++ appends.rest) now.text e)) (subst H (sym same) first.0),
