@@ -1,5 +1,5 @@
 -- What is left once a piece, or the end, was given to the repair and its text was written.
-use Rattle.std.proofs.Common.{◌≡◌, ◌≢◌, ℕ, Bool, List, [], Option, Some, Result, Ok, Err, refl, sym, ◌∙◌, subst}
+use Rattle.std.proofs.Common.{◌≡◌, ◌≢◌, ℕ, Bool, false, List, [], Option, Some, Result, Ok, Err, refl, sym, ◌∙◌, subst}
 use Rattle.std.specs.Prelude.{OnOk, OnErr}
 use Rattle.online_repair.specs.Feeds.{Answers, Feeds}
 use Rattle.online_repair.specs.StandsFor.{HasEnded, OnlineView, StandsFor}
@@ -16,13 +16,6 @@ use Rattle.screen_words.specs.Faults.{online_ending}
 use Rattle.screen_words.specs.declared.status.Ending.{Ending}
 use Rattle.screen_words.specs.declared.status.Ending.TheVariants.{Ended, ReadFault, WriteFault, Memory}
 
-open_not_over : Open ≡ IsOver → ⊥
-open_not_over e = cc
-
--- a repair that goes on has not ended
-pub not_ended : (online : OnlineView) (rules : Rules) (came : List ℕ) → StandsFor online rules false came → HasEnded online → ⊥
-not_ended online rules came stands e = open_not_over (sym stands.stage_is ∙ e)
-
 err_is : {A : Type 0} (one other : OnlineFault) → ◌≡◌ {A = Result A OnlineFault} (Err one) (Err other) → one ≡ other
 err_is one other e = cc
 
@@ -31,14 +24,14 @@ ok_not_err given e = cc
 
 module _ {K : Type 0} (held : K → Option (List ℕ)) (sink_faults : K → ℕ) where
   -- a refusal other than want of memory, whose text is written
-  pub refused_on : (given : OnlineFault) (text : List ℕ) (sink now : K) (ending : Ending) → given ≢ fault.Memory → ending ≡ online_ending given
-      → IsWritten held sink_faults (Some text) sink now → HandsOn held sink_faults (Err given) text sink now (Err ending)
-  refused_on (fault.NotOnline rule) text sink now ending other e written = rw e (fault.NotOnline rule, refl, refl, written)
-  refused_on (fault.Table refusal) text sink now ending other e written = rw e (fault.Table refusal, refl, refl, written)
-  refused_on (fault.WindowFull row) text sink now ending other e written = rw e (fault.WindowFull row, refl, refl, written)
-  refused_on (fault.NoWholeStep row col) text sink now ending other e written = rw e (fault.NoWholeStep row col, refl, refl, written)
-  refused_on (fault.LeavesRange row col) text sink now ending other e written = rw e (fault.LeavesRange row col, refl, refl, written)
-  refused_on fault.Memory text sink now ending other e written = absurd (other refl)
+  pub refused_on : (given : OnlineFault) (text : List ℕ) (sink now : K) → given ≢ fault.Memory
+      → IsWritten held sink_faults (Some text) sink now → HandsOn held sink_faults (Err given) text sink now (Err (online_ending given))
+  refused_on (fault.NotOnline rule) text sink now other written = (fault.NotOnline rule, refl, refl, written)
+  refused_on (fault.Table refusal) text sink now other written = (fault.Table refusal, refl, refl, written)
+  refused_on (fault.WindowFull row) text sink now other written = (fault.WindowFull row, refl, refl, written)
+  refused_on (fault.NoWholeStep row col) text sink now other written = (fault.NoWholeStep row col, refl, refl, written)
+  refused_on (fault.LeavesRange row col) text sink now other written = (fault.LeavesRange row col, refl, refl, written)
+  refused_on fault.Memory text sink now other written = absurd (other refl)
 
   -- a write failed
   pub cut_on : (fed : Result (Unit {0}) OnlineFault) (text : List ℕ) (sink now : K) → fed ≢ Err fault.Memory

@@ -64,7 +64,7 @@ module _ {S K : Type 0} (left : S → Option (List ℕ)) (source_faults : S → 
       → StopsAtRules left source_faults Happens AnswersOnline ins (record ins { rules = rules })
   at_rules Happens ins rules p = record { came = p.0; within = p.1; needed = needs_rules; taken = p.2; happens = p.3; readings = refl; cert = refl }
 
-  pub rules_end : (ins : Inputs S) (rules : S) (outs : Outputs K) (given : StepFault RuleFault)
+  rules_end : (ins : Inputs S) (rules : S) (outs : Outputs K) (given : StepFault RuleFault)
       → IsStep left source_faults longest_rules ReadsFile ins.rules rules (Err given)
       → PerformsOnline left source_faults held sink_faults ins (record ins { rules = rules }) outs outs (rules_ending given)
   rules_end ins rules outs fault.TooLong p = (
@@ -81,6 +81,13 @@ module _ {S K : Type 0} (left : S → Option (List ℕ)) (source_faults : S → 
   )
   rules_end ins rules outs fault.Failed p = inl (at_rules Rose ins rules p, (refl, refl))
   rules_end ins rules outs fault.Memory p = inl (inr (at_rules Stays ins rules p), (refl, refl))
+
+  pub rules_end_so : (ins : Inputs S) (rules : S) (outs : Outputs K) (given : StepFault RuleFault) (ending : Ending) → ending ≡ rules_ending given
+      → IsStep left source_faults longest_rules ReadsFile ins.rules rules (Err given)
+      → PerformsOnline left source_faults held sink_faults ins (record ins { rules = rules }) outs outs ending
+  rules_end_so ins rules outs given ending e p =
+      let P : Ending → Type 0 = λ how. PerformsOnline left source_faults held sink_faults ins (record ins { rules = rules }) outs outs how in
+      subst P (sym e) (rules_end ins rules outs given p)
 
   -- ---- they are accepted, and the readings are repaired
 

@@ -1,6 +1,6 @@
 -- A piece that was read into the front of a longer one.
-use Rattle.std.proofs.Common.{◌≡◌, ℕ, ◌<◌, ◌≤◌, List, [], ◌++◌, length, take, Option, Result, Ok, Err, IfOk, sym, subst, arith}
-use Rattle.std.proofs.lemmas.List.{take-append-le}
+use Rattle.std.proofs.Common.{◌≡◌, ℕ, ◌+◌, ◌-◌, ◌<◌, ◌≤◌, List, [], ◌++◌, length, take, Option, Result, Ok, Err, IfOk, sym, subst, arith}
+use Rattle.std.proofs.lemmas.List.{length-take-le, take-append-le}
 use Rattle.screen_io.specs.Source.{Takes, IsAtEnd, Reads}
 use Rattle.screen_io.specs.declared.source.Failed.{Failed}
 use Rattle.screen_io.proofs.Steps.{IsAtEnd-stays}
@@ -33,3 +33,17 @@ ended_result before now front (Err e) some read = tt
 pub bound_result : (front : List ℕ) (most : ℕ) (result : Result ℕ Failed) → length front ≤ most → IfOk result (λ count. count ≤ length front) → IfOk result (λ count. count ≤ most)
 bound_result front most (Ok count) short bound = omega (arith, short, bound)
 bound_result front most (Err e) short bound = tt
+
+-- ---- how many bytes came
+
+pub front_length : (piece : List ℕ) (count most : ℕ) → length piece ≡ most → count ≤ most → length (take count piece) ≡ count
+front_length piece count most e short = length-take-le count piece (omega (arith, e, short))
+
+pub room_after : (piece : List ℕ) (count most room : ℕ) → length piece ≡ most → count ≤ most → count ≤ room → length (take count piece) + (room - count) ≡ room
+room_after piece count most room e short within = omega (arith, front_length piece count most e short, within)
+
+pub front_at_most : (piece : List ℕ) (count most bound : ℕ) → length piece ≡ most → count ≤ most → count ≤ bound → length (take count piece) ≤ bound
+front_at_most piece count most bound e short within = omega (arith, front_length piece count most e short, within)
+
+pub front_of_one : (piece : List ℕ) (count most : ℕ) → length piece ≡ most → count ≤ most → count ≤ 1 → 0 < count → length (take count piece) ≡ 1
+front_of_one piece count most e short one some = omega (arith, front_length piece count most e short, one, some)

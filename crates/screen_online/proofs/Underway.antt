@@ -14,7 +14,7 @@ use Rattle.screen_io.specs.Source.{Takes, IsAtEnd}
 use Rattle.screen_io.proofs.Steps.{Takes-more, Takes-nothing}
 use Rattle.screen_online.specs.Online.{AfterStart, HasText, IsBroken, IsRefused, IsTooMuch, IsWhole, IsWrittenFor, ending_for, streamed}
 use Rattle.screen_online.specs.Steps.{Hands, HasWritten, IsBegun, IsCutOff, IsGiven, IsStarved, IsUnderWay, Repairs}
-use Rattle.screen_online.specs.declared.online.TheConstants.{MOST_BYTES, PIECE}
+use Rattle.screen_online.specs.declared.stream.TheConstants.{MOST_BYTES, PIECE}
 use Rattle.screen_online.proofs.Written.{IsPart, front_written, more_written, nothing_yet, part_written, piece_written}
 use Rattle.screen_steps.specs.Answer.{Answer, Whole, Begun, Unread}
 use Rattle.screen_steps.specs.Files.{without_texts}
@@ -137,6 +137,13 @@ module _ {S K : Type 0} (left : S → Option (List ℕ)) (source_faults : S → 
       let other : fault.LeavesRange row col ≢ fault.Memory = λ e. cc in
       let e = (found other).2 in absurd (cc)
   starts_not rules fault.Memory source sink found = inl (refl, refl)
+
+  pub starts_not_so : (rules : Rules) (refusal : OnlineFault) (ending : Ending) (source : S) (sink : K) → ending ≡ online_ending refusal
+      → (refusal ≢ fault.Memory → (number : ℕ) × (not_online rules ≡ Some number) × (refusal ≡ fault.NotOnline number))
+      → Repairs left source_faults held sink_faults rules source source sink sink (Err ending)
+  starts_not_so rules refusal ending source sink e found =
+      let R : Ending → Type 0 = λ given. Repairs left source_faults held sink_faults rules source source sink sink (Err given) in
+      subst R (sym e) (starts_not rules refusal source sink found)
 
   -- ---- more bytes came
 
@@ -383,3 +390,12 @@ module _ {S K : Type 0} (left : S → Option (List ℕ)) (source_faults : S → 
         read = (Takes-more (left source) (left between) (left now) way.came one way.begun.taken taken, one_more way.came one MOST_BYTES full size, unfailed ∙ way.unfailed);
         written = way.written.written;
       }
+
+  pub too_many_so : (rules : Rules) (room : ℕ) (online : OnlineView) (one : List ℕ) (ending : Ending) (source between now : S) (sink middle : K)
+      → IsUnderWay left source_faults held sink_faults rules room online source between sink middle → room ≡ 0
+      → length one ≡ 1 → Takes (left between) one (left now) → Stays (source_faults between) (source_faults now)
+      → ending ≡ Ended (ReadingsRefused (of_the_file FileTooLong))
+      → Repairs left source_faults held sink_faults rules source now sink middle (Err ending)
+  too_many_so rules room online one ending source between now sink middle way none size taken unfailed e =
+      let R : Ending → Type 0 = λ given. Repairs left source_faults held sink_faults rules source now sink middle (Err given) in
+      subst R (sym e) (too_many rules room online one source between now sink middle way none size taken unfailed)

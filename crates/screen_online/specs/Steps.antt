@@ -11,7 +11,7 @@ use Rattle.screen_io.specs.Faults.{Rose}
 use Rattle.screen_io.specs.Sink.{Gains, GainsPrefix}
 use Rattle.screen_io.specs.Source.{Takes, IsAtEnd}
 use Rattle.screen_online.specs.Online.{AfterStart, HasText, IsWrittenFor}
-use Rattle.screen_online.specs.declared.online.TheConstants.{MOST_BYTES}
+use Rattle.screen_online.specs.declared.stream.TheConstants.{MOST_BYTES}
 use Rattle.screen_steps.specs.Answer.{Answer}
 use Rattle.screen_steps.specs.Performance.{IsCut, IsRead, IsWritten, Stays}
 use Rattle.screen_words.specs.Faults.{online_ending}

@@ -1,5 +1,5 @@
 use Rattle.screen_online.specs.Steps.{IsUnderWay}
-use Rattle.screen_online.proofs.online.repair_all.Given as goal
+use Rattle.screen_online.proofs.stream.repair_all.Given as goal
 
 -- the repair stands for the bytes that came, and the whole text for them is written
 abbrev pub invariant-loop-room : goal.invariant-loop-room
