@@ -10,7 +10,7 @@ use Rattle.rule_file.specs.declared.fault.RuleFault.{RuleFault}
 use Rattle.rule_file.specs.declared.read.TheConstants.{LONGEST as longest_rules}
 use Rattle.rule_file.specs.declared.rules.Rules.{Rules}
 use Rattle.screen_online.specs.Online.{AfterStart, AnswersOnline, IsBroken, IsRefused, IsTooMuch, IsWhole, ending_for, streamed}
-use Rattle.screen_online.specs.declared.online.TheConstants.{MOST_BYTES}
+use Rattle.screen_online.specs.declared.stream.TheConstants.{MOST_BYTES}
 use Rattle.screen_steps.specs.Answer.{Extent, Whole, Begun, Unread, Answer, AreFront, AreFronts}
 use Rattle.screen_steps.specs.Files.{RulesAreOne, rules_refused, rules_too_long}
 use Rattle.screen_steps.proofs.AfterFile.{after_has, after_one, after_rests, more_and_not}

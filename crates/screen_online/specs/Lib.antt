@@ -1,1 +1,2 @@
 pub mod Online
+pub mod Steps

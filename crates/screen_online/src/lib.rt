@@ -1,6 +1,6 @@
 //! The command `online` of `screen`: it repairs readings as they come on a stream.
 #![tactic(auto)]
 
-mod online;
+mod stream;
 
-pub use online::{MOST_BYTES, PIECE, online};
+pub use stream::{MOST_BYTES, PIECE, online};

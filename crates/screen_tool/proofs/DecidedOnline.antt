@@ -12,7 +12,7 @@ use Rattle.screen_io.specs.Faults.{Rose}
 use Rattle.screen_io.specs.Sink.{Gains}
 use Rattle.screen_online.proofs.Answered.{stays}
 use Rattle.screen_online.specs.Online.{AfterStart, AnswersOnline, PerformsOnline, ending_for}
-use Rattle.screen_online.specs.declared.online.TheConstants.{MOST_BYTES}
+use Rattle.screen_online.specs.declared.stream.TheConstants.{MOST_BYTES}
 use Rattle.screen_steps.proofs.AfterFile.{after_accepted, more_and_not}
 use Rattle.screen_steps.specs.Answer.{Answer}
 use Rattle.screen_steps.specs.Files.{RulesAreOne, rules_refused, rules_too_long}

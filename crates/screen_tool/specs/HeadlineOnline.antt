@@ -8,7 +8,7 @@ use Rattle.rule_file.specs.File.{Spells as SpellsRules}
 use Rattle.rule_file.specs.declared.rules.Rules.{Rules}
 use Rattle.screen_io.specs.Faults.{Rose}
 use Rattle.screen_io.specs.Sink.{Gains}
-use Rattle.screen_online.specs.declared.online.TheConstants.{MOST_BYTES}
+use Rattle.screen_online.specs.declared.stream.TheConstants.{MOST_BYTES}
 use Rattle.screen_words.specs.Ending.{IsUnless}
 use Rattle.screen_words.specs.declared.ends.Inputs.{Inputs}
 use Rattle.screen_words.specs.declared.ends.Outputs.{Outputs}
