@@ -1,5 +1,5 @@
 -- What `online` leaves: beside the note, and of the ends that it has no use for.
-use Rattle.std.proofs.Common.{◌≡◌, inl, inr, ℕ, List, Option, Some, ap, subst}
+use Rattle.std.proofs.Common.{◌≡◌, inl, inr, ℕ, List, Option, Some, None, ap, subst}
 use Rattle.rule_file.specs.declared.rules.Rules.{Rules}
 use Rattle.screen_online.proofs.Answered.{online_unread, online_unwritten}
 use Rattle.screen_online.specs.Online.{AnswersOnline, PerformsOnline, Streams}

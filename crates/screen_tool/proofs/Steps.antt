@@ -18,7 +18,7 @@ use Rattle.screen_words.specs.declared.ends.Inputs.{Inputs}
 use Rattle.screen_steps.specs.declared.reply.Reply.{Reply}
 use Rattle.screen_words.specs.declared.status.Ending.{Ending}
 use Rattle.screen_words.specs.declared.status.Ending.TheVariants as ending
-use Rattle.screen_words.specs.declared.status.Outcome.TheVariants.{Usage}
+use Rattle.screen_words.specs.declared.status.Outcome.TheVariants.{Done, Usage}
 use Rattle.screen_steps.specs.Answer.{Extent, Answer}
 use Rattle.screen_tool.specs.Answers.{Answers, AnswersBy, usage}
 use Rattle.screen_steps.specs.Files.{RulesAreOne, too_many_bounds}
@@ -71,7 +71,7 @@ module _ {S : Type 0} (left : S → Option (List ℕ)) (source_faults : S → �
     table_comes law ins rules readings found table (Err ending.ReadFault) q p c = absurd c
     table_comes law ins rules readings found table (Err ending.WriteFault) q p c = absurd c
     table_comes law ins rules readings found table (Err ending.Memory) q p c =
-        texts_end (λ rules table cert. AnswersTableBy (λ problem outcome. Unit {0}) rules table) (global_wholly (λ problem outcome. Unit {0})) law ins rules readings found table q p
+        texts_end left source_faults (λ rules table cert. AnswersTableBy (λ problem outcome. Unit {0}) rules table) (global_wholly (λ problem outcome. Unit {0})) law ins rules readings found table q p
 
     -- the reply of a command is one of its answers, whatever is counted
     pub any_reply : (Holds : Rules → TableView → Accepted → Type 0) (command : Option Command) (ins now : Inputs S) (reply : Reply)

@@ -193,7 +193,9 @@ fn reply_of<S: Source, V: Solver>(
         Some(Command::Check) => check(alloc, ins),
         Some(Command::Report) => report(alloc, ins),
         Some(Command::Sample { rows, seed }) => sample(alloc, rows, seed, solver),
-        None | Some(Command::Online) => Err(Ending::Ended(Outcome::Usage)),
+        // It makes no reply: `ending_of` calls it.
+        Some(Command::Online) => Err(Ending::Ended(Outcome::Usage)),
+        None => Err(Ending::Ended(Outcome::Usage)),
     }
 }
 
