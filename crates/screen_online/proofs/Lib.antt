@@ -1,3 +1,4 @@
+pub mod Answered
 pub mod Handing
 pub mod Performing
 pub mod Reading

@@ -1,5 +1,5 @@
 -- What is answered after the rules and the readings: by what was read of both.
-use Rattle.std.proofs.Common.{◌≡◌, ◌≢◌, inl, inr, ℕ, ◌<◌, ◌≤◌, ◌+◌, List, length, Ok, refl, sym, ap, subst, ◌∙◌}
+use Rattle.std.proofs.Common.{◌≡◌, ◌≢◌, inl, inr, ℕ, ◌≤◌, ◌+◌, List, length, Ok, refl, sym, ap, subst, ◌∙◌}
 use Rattle.bound_maker.specs.declared.maker.TheConstants.{MOST_BOUNDS}
 use Rattle.bound_maker.specs.Bounds.{made_bounds}
 use Rattle.rule_file.specs.File.{ReadsFile}

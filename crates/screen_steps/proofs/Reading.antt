@@ -1,12 +1,5 @@
 -- From the steps that read files to what a command performs.
-use Rattle.std.proofs.Common.{◌≡◌, ◌≢◌, inl, inr, ℕ, ◌+◌, ◌≤◌, ◌<◌, arith, List, [], length, Option, Some, None, Result, Ok, Err, OnOk, OnErr, MatchResult, refl, sym, subst}
-use Rattle.global_repair.specs.declared.fault.RepairFault.{RepairFault}
-use Rattle.global_repair.specs.declared.fault.RepairFault.TheVariants as repair
-use Rattle.least_cost.specs.declared.outcome.Outcome.{Outcome as Found}
-use Rattle.bound_maker.specs.declared.maker.TheConstants.{MOST_BOUNDS}
-use Rattle.bound_maker.specs.Bounds.{made_bounds}
-use Rattle.bound_maker.specs.Costs.{made_problem}
-use Rattle.cert_check.specs.declared.accepted.Accepted.{Accepted}
+use Rattle.std.proofs.Common.{◌≡◌, ◌≢◌, inl, inr, ℕ, ◌+◌, ◌≤◌, arith, List, [], length, Option, None, Result, Ok, Err, OnOk, OnErr, refl, sym, subst}
 use Rattle.rule_file.specs.File.{ReadsFile}
 use Rattle.rule_file.specs.declared.fault.RuleFault.{RuleFault}
 use Rattle.screen_io.specs.Faults.{Rose, HasCause}
@@ -14,28 +7,21 @@ use Rattle.screen_io.specs.Sink.{Gains, GainsPrefix}
 use Rattle.screen_io.specs.declared.source.Failed.{Failed}
 use Rattle.rule_file.specs.declared.read.TheConstants.{LONGEST as longest_rules}
 use Rattle.rule_file.specs.declared.rules.Rules.{Rules}
-use Rattle.screen_model.specs.Cost.{Problem}
 use Rattle.series_csv.specs.File.{TableView, ReadsTable}
 use Rattle.series_csv.specs.declared.table.TheConstants.{LONGEST as longest_readings}
 use Rattle.series_rows.specs.declared.fault.TableFault.{TableFault}
-use Rattle.screen_words.specs.declared.command.Command.{Command}
-use Rattle.screen_words.specs.declared.command.Command.TheVariants.{Global}
 use Rattle.screen_words.specs.declared.ends.Inputs.{Inputs}
 use Rattle.screen_words.specs.declared.ends.Outputs.{Outputs}
-use Rattle.screen_steps.specs.declared.reply.Reply.{Reply}
 use Rattle.screen_words.specs.declared.status.Ending.{Ending}
 use Rattle.screen_words.specs.declared.status.Ending.TheVariants as ending
 use Rattle.screen_words.specs.declared.status.Outcome.TheVariants.{Done, Usage}
 use Rattle.screen_words.specs.declared.step.StepFault.{StepFault}
 use Rattle.screen_words.specs.declared.step.StepFault.TheVariants as fault
-use Rattle.screen_steps.specs.Answer.{Extent, Whole, Answer}
-use Rattle.screen_tool.specs.Answers.{Answers, AnswersBy, usage}
-use Rattle.screen_steps.specs.Files.{AfterBoth, RulesAreOne, rules_too_long, rules_refused, readings_too_long, readings_refused, too_many_bounds}
-use Rattle.screen_tool.specs.Global.{AnswersGlobal, AnswersGlobalBy, AnswersTableBy, IsFoundFor, answer_of}
-use Rattle.screen_steps.specs.Performance.{IsAnswerTo, IsRead, AreRead, IsAnswered, Stays, Stops, LeavesSinks, IsWritten, IsNoted, Performs}
-use Rattle.screen_steps.specs.Step.{Comes, IsFound, IsReplyOf, IsStopped, IsStep, WasRead, Ends, Replies}
-use Rattle.screen_words.specs.Faults.{rules_ending, readings_ending, repair_ending}
-use Rattle.screen_tool.proofs.AnswerLaws.{any_answer, global_any, global_wholly, reads_both}
+use Rattle.screen_steps.specs.Answer.{Whole, Answer}
+use Rattle.screen_steps.specs.Files.{AfterBoth, RulesAreOne, rules_too_long, rules_refused, readings_too_long, readings_refused}
+use Rattle.screen_steps.specs.Performance.{IsAnswerTo, IsRead, Stays, Stops, LeavesSinks, IsWritten, IsNoted, Performs}
+use Rattle.screen_steps.specs.Step.{IsFound, IsStopped, IsStep, WasRead, Ends}
+use Rattle.screen_words.specs.Faults.{rules_ending, readings_ending}
 use Rattle.screen_steps.proofs.BothFiles.{needs_readings, needs_rules}
 
 -- ---- a file that was read, and what was found in it
@@ -197,11 +183,3 @@ readings_no_done fault.TooLong e = cc
 readings_no_done (fault.Refused f) e = cc
 readings_no_done fault.Failed e = cc
 readings_no_done fault.Memory e = cc
-
-pub repair_no_usage : (given : RepairFault) → repair_ending given ≢ ending.Ended Usage
-repair_no_usage repair.TooManyBounds e = cc
-repair_no_usage repair.Memory e = cc
-
-pub repair_no_done : (given : RepairFault) → repair_ending given ≢ ending.Ended Done
-repair_no_done repair.TooManyBounds e = cc
-repair_no_done repair.Memory e = cc

@@ -1,40 +1,15 @@
 -- For proofs: what the steps of a command leave, before it writes anything.
 use Rattle.std.specs.Prelude.{◌≡◌, ℕ, ◌+◌, ◌<◌, ◌≤◌, List, length, Option, None, option_map, Result, Ok, Err, Vec}
 use Rattle.std.specs.declared.alloc.Global.{Global as Heap}
-use Rattle.rule_file.specs.Fault.{of_the_file as of_the_rules}
-use Rattle.bound_maker.specs.declared.maker.MakeFault.{MakeFault}
-use Rattle.bound_maker.specs.declared.maker.MakeFault.TheVariants as make
-use Rattle.cert_check.specs.Judges.{Judges}
-use Rattle.cert_check.specs.Laws.{IsTrueClaim}
-use Rattle.cert_check.specs.declared.accepted.Accepted.{Accepted}
-use Rattle.cert_check.specs.declared.fault.CertFault.{CertFault}
-use Rattle.cert_check.specs.declared.fault.CertFault.TheVariants.{FileTooLong}
-use Rattle.cert_format.specs.declared.limits.TheConstants.{LONGEST as longest_cert}
-use Rattle.global_repair.specs.declared.fault.RepairFault.{RepairFault}
-use Rattle.global_repair.specs.declared.fault.RepairFault.TheVariants as repair
-use Rattle.rule_file.specs.declared.fault.RuleCause.TheVariants as rules
-use Rattle.rule_file.specs.declared.fault.RuleFault.{RuleFault}
-use Rattle.rule_file.specs.File.{ReadsFile}
-use Rattle.rule_file.specs.declared.read.TheConstants.{LONGEST as longest_rules}
-use Rattle.rule_file.specs.declared.rules.Rules.{Rules}
-use Rattle.series_csv.specs.File.{TableView, ReadsTable}
-use Rattle.series_csv.specs.declared.table.TheConstants.{LONGEST as longest_readings}
-use Rattle.series_rows.specs.Faults.{of_the_file as of_the_readings}
-use Rattle.series_rows.specs.declared.fault.TableFault.{TableFault}
-use Rattle.series_rows.specs.declared.fault.TableCause.TheVariants as readings
 use Rattle.screen_io.specs.Faults.{Rose}
 use Rattle.screen_io.specs.Source.{Takes}
 use Rattle.screen_words.specs.declared.ends.Inputs.{Inputs}
 use Rattle.screen_steps.specs.declared.reply.Reply.{Reply}
 use Rattle.screen_words.specs.declared.status.Ending.{Ending}
 use Rattle.screen_words.specs.declared.status.Ending.TheVariants as ending
-use Rattle.screen_words.specs.declared.status.Outcome.TheVariants.{RulesRefused, ReadingsRefused, TooManyBounds, CertRefused}
 use Rattle.screen_words.specs.declared.step.StepFault.{StepFault}
 use Rattle.screen_words.specs.declared.step.StepFault.TheVariants.{TooLong, Refused, Failed, Memory}
-use Rattle.screen_tool.specs.declared.checked.Checked.{Checked}
 use Rattle.screen_steps.specs.Answer.{Whole, Begun, Answer}
-use Rattle.screen_tool.specs.Checked.{AnswersChecked}
-use Rattle.screen_steps.specs.Files.{HasFewBounds}
 use Rattle.screen_steps.specs.Performance.{IsAnswerTo, IsRead, IsAnswered, Starves, Stays, Stops}
 
 -- what is found in bytes that were read, by what they are read as

@@ -20,18 +20,22 @@ use Rattle.series_csv.specs.Text.{table_text}
 use Rattle.series_csv.specs.declared.table.TheConstants.{LONGEST as longest_readings}
 use Rattle.series_rows.specs.declared.fault.TableFault.{TableFault}
 use Rattle.screen_words.specs.declared.command.Command.{Command}
-use Rattle.screen_words.specs.declared.command.Command.TheVariants.{Check, Global, Report, Sample}
+use Rattle.screen_words.specs.declared.command.Command.TheVariants.{Check, Global, Online, Report, Sample}
 use Rattle.screen_words.specs.declared.ends.Inputs.{Inputs}
 use Rattle.screen_steps.specs.Answer.{Extent, Whole, Unread, Answer, AreFront, AreFronts}
 use Rattle.screen_tool.specs.Answers.{Answers, AnswersBy, OneOutcome, OneText, RestsOnRead}
-use Rattle.screen_tool.specs.Check.{AnswersCheck, AnswersCheckBy, check_text}
+use Rattle.screen_tool.specs.Check.{check_text}
 use Rattle.screen_tool.specs.Checked.{AfterCert, AnswersChecked, accepted_answer, cert_refused, cert_too_long}
 use Rattle.screen_steps.specs.Files.{CertsAreOne}
 use Rattle.screen_steps.specs.Files.{RulesAreOne, ReadingsAreOne, AfterBounds, HasFewBounds, rules_too_long, rules_refused, readings_too_long, readings_refused, too_many_bounds}
 use Rattle.screen_tool.specs.Global.{AnswersGlobal, AnswersGlobalBy, AnswersTableBy, AnswersBoundsBy, answer_of}
 use Rattle.screen_tool.specs.Sample.{summary_of, unread}
-use Rattle.screen_steps.proofs.AfterFile.{after_accepted, after_follows, after_has, after_one, after_rests}
+use Rattle.screen_steps.proofs.AfterFile.{after_follows, after_has, after_one, after_rests}
 use Rattle.screen_steps.proofs.BothFiles.{begun_not_unread, both_accepted, both_follow, both_have, both_one, both_rest, bounds_few, bounds_follow, bounds_have, bounds_one, whole_not_unread}
+use Rattle.online_repair.specs.Laws.{OutputsAreOne, RefusalsStay}
+use Rattle.screen_online.proofs.Answered.{online_one, online_rests}
+use Rattle.screen_online.specs.Online.{streamed}
+use Rattle.screen_words.specs.declared.status.Outcome.{Outcome}
 use Rattle.screen_tool.proofs.SampleLaws.{sample_any, sample_one, summed_out, summed_outcome}
 
 -- ---- what every answer of `global` has
@@ -163,6 +167,7 @@ pub any_answer : (Counts : Problem → Found → Type 0) (Holds : Rules → Tabl
     → AnswersBy Counts Holds command bytes answer → Answers command bytes answer
 any_answer Counts Holds (Some Global) bytes answer p = global_any Counts bytes answer p
 any_answer Counts Holds (Some Check) bytes answer p = checked_any Holds (λ rules table. check_text) bytes answer p
+any_answer Counts Holds (Some Online) bytes answer p = p
 any_answer Counts Holds (Some Report) bytes answer p = checked_any Holds report_text bytes answer p
 any_answer Counts Holds (Some (Sample rows seed)) bytes answer p = sample_any Counts rows seed answer p
 any_answer Counts Holds None bytes answer p = p
@@ -192,7 +197,9 @@ module _ {B : Type 0} (part : Answer → B)
     (same : (rules : Rules) (table : TableView) (one other : Found) → AnswersProblem (whole_problem rules table) one → AnswersProblem (whole_problem rules table) other
     → part (answer_of rules table one) ≡ part (answer_of rules table other))
     (same_summed : (rows : ℕ) (rules : Rules) (table : TableView) (one other : Found) → AnswersProblem (whole_problem rules table) one → AnswersProblem (whole_problem rules table) other
-    → part (unread (summary_of rows table one)) ≡ part (unread (summary_of rows table other))) where
+    → part (unread (summary_of rows table one)) ≡ part (unread (summary_of rows table other)))
+    (same_streamed : (outcome : Outcome) (one other : Extent) (text : List ℕ) → part (streamed outcome one text) ≡ part (streamed outcome other text))
+    (outputs_one : OutputsAreOne) (refusals_stay : RefusalsStay) where
   found_one : (rules : Rules) (table : TableView) (one other : Answer) → AnswersBoundsBy Any rules table one → AnswersBoundsBy Any rules table other → part one ≡ part other
   found_one rules table one other p q = ap part p.3 ∙ (same rules table p.0 q.0 p.1.whole q.1.whole ∙ sym (ap part q.3))
 
@@ -206,20 +213,24 @@ module _ {B : Type 0} (part : Answer → B)
   part_one rules_one readings_one certs_one (Some Global) bytes one other p q = global_one rules_one readings_one bytes one other p q
   part_one rules_one readings_one certs_one (Some Check) bytes one other p q =
       checked_one (λ rules table accepted. Unit {0}) (λ rules table. check_text) part rules_one readings_one certs_one bytes one other p q
+  part_one rules_one readings_one certs_one (Some Online) bytes one other p q = online_one part same_streamed outputs_one refusals_stay rules_one bytes one other p q
   part_one rules_one readings_one certs_one (Some Report) bytes one other p q =
       checked_one (λ rules table accepted. Unit {0}) report_text part rules_one readings_one certs_one bytes one other p q
   part_one rules_one readings_one certs_one (Some (Sample rows seed)) bytes one other p q = sample_one part same_summed rules_one readings_one rows seed one other p q
   part_one rules_one readings_one certs_one None bytes one other p q = ap part (p ∙ sym q)
 
-pub outcomes_one : RulesAreOne → ReadingsAreOne → CertsAreOne → OneOutcome
-outcomes_one rules_one readings_one certs_one = part_one (λ (a : Answer). a.outcome) found_outcome summed_outcome rules_one readings_one certs_one
+pub outcomes_one : RulesAreOne → ReadingsAreOne → CertsAreOne → OutputsAreOne → RefusalsStay → OneOutcome
+outcomes_one rules_one readings_one certs_one outputs_one refusals_stay =
+    part_one (λ (a : Answer). a.outcome) found_outcome summed_outcome (λ outcome one other text. refl) outputs_one refusals_stay rules_one readings_one certs_one
 
-pub texts_one : RulesAreOne → ReadingsAreOne → CertsAreOne → RepairIsOne → OneText
-texts_one rules_one readings_one certs_one repair_one = part_one (λ (a : Answer). a.out) (found_text repair_one) (summed_out repair_one) rules_one readings_one certs_one
+pub texts_one : RulesAreOne → ReadingsAreOne → CertsAreOne → OutputsAreOne → RefusalsStay → RepairIsOne → OneText
+texts_one rules_one readings_one certs_one outputs_one refusals_stay repair_one =
+    part_one (λ (a : Answer). a.out) (found_text repair_one) (summed_out repair_one) (λ outcome one other text. refl) outputs_one refusals_stay rules_one readings_one certs_one
 
 pub rests : RestsOnRead
 rests (Some Global) came bytes answer p fronts = global_rests Any came bytes answer fronts p
 rests (Some Check) came bytes answer p fronts = checked_rests (λ rules table accepted. Unit {0}) (λ rules table. check_text) came bytes answer fronts p
+rests (Some Online) came bytes answer p fronts = online_rests came bytes answer fronts p
 rests (Some Report) came bytes answer p fronts = checked_rests (λ rules table accepted. Unit {0}) report_text came bytes answer fronts p
 rests (Some (Sample rows seed)) came bytes answer p fronts = p
 rests None came bytes answer p fronts = p

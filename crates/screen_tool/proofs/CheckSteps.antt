@@ -1,5 +1,5 @@
 -- From the steps of a command that checks a certificate to what it performs.
-use Rattle.std.proofs.Common.{◌≡◌, ◌≢◌, inl, inr, ℕ, ◌<◌, List, [], length, Option, None, Result, Ok, Err, refl, ap, subst}
+use Rattle.std.proofs.Common.{◌≢◌, inl, inr, ℕ, ◌<◌, List, [], length, Option, Result, Ok, Err, refl}
 use Rattle.bound_maker.specs.Bounds.{made_bounds}
 use Rattle.bound_maker.specs.declared.maker.MakeFault.{MakeFault}
 use Rattle.bound_maker.specs.declared.maker.MakeFault.TheVariants as make
@@ -20,15 +20,14 @@ use Rattle.screen_io.specs.Faults.{Rose}
 use Rattle.screen_tool.specs.declared.checked.Checked.{Checked}
 use Rattle.screen_words.specs.declared.ends.Inputs.{Inputs}
 use Rattle.screen_steps.specs.declared.reply.Reply.{Reply}
-use Rattle.screen_words.specs.declared.status.Ending.{Ending}
 use Rattle.screen_words.specs.declared.status.Ending.TheVariants as ending
 use Rattle.screen_words.specs.declared.status.Outcome.TheVariants.{Done, Usage}
 use Rattle.screen_words.specs.declared.step.StepFault.{StepFault}
 use Rattle.screen_words.specs.declared.step.StepFault.TheVariants as fault
-use Rattle.screen_steps.specs.Answer.{Whole, Answer}
+use Rattle.screen_steps.specs.Answer.{Answer}
 use Rattle.screen_tool.specs.Checked.{AfterCert, AnswersChecked, accepted_answer, cert_refused, cert_too_long}
 use Rattle.screen_steps.specs.Files.{AfterBounds, HasFewBounds, RulesAreOne, ReadingsAreOne, too_many_bounds}
-use Rattle.screen_steps.specs.Performance.{IsRead, IsAnswered, Stays, Stops}
+use Rattle.screen_steps.specs.Performance.{Stays, Stops}
 use Rattle.screen_steps.specs.Step.{Ends, IsReplyOf, IsStep, IsStopped, Replies}
 use Rattle.screen_tool.specs.Checking.{EndsUnchecked, IsChecked}
 use Rattle.screen_words.specs.Faults.{cert_ending, make_ending, readings_ending, rules_ending}

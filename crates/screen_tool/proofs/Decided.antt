@@ -139,6 +139,14 @@ pub written_counted : {K : Type 0} (held : K → Option (List ℕ)) (sink_faults
 written_counted held sink_faults (Some text) sink now p = p.1
 written_counted held sink_faults None sink now p = absurd p
 
+no_cut : {K : Type 0} (held : K → Option (List ℕ)) (sink_faults : K → ℕ) (text : Option (List ℕ)) (sink now : K) → text ≡ None → IsCut held sink_faults text sink now → ⊥
+no_cut held sink_faults text sink now p cut = subst (λ (t : Option (List ℕ)). IsCut held sink_faults t sink now) p cut
+
+-- where no certificate is written
+pub out_counted : {K : Type 0} (held : K → Option (List ℕ)) (sink_faults : K → ℕ) (answer : Answer) (outs now : Outputs K) → answer.cert ≡ None → AreCut held sink_faults answer outs now → Rose (sink_faults outs.out) (sink_faults now.out)
+out_counted held sink_faults answer outs now none (inl p) = absurd (no_cut held sink_faults answer.cert outs.cert now.cert none p.0)
+out_counted held sink_faults answer outs now none (inr p) = written_counted held sink_faults answer.out outs.out now.out p.1
+
 cut_counted : {K : Type 0} (held : K → Option (List ℕ)) (sink_faults : K → ℕ) (answer : Answer) (outs now : Outputs K) → AreCut held sink_faults answer outs now → CountsWriteFault sink_faults outs now
 cut_counted held sink_faults answer outs now (inl p) = inl (written_counted held sink_faults answer.cert outs.cert now.cert p.0)
 cut_counted held sink_faults answer outs now (inr p) = inr (written_counted held sink_faults answer.out outs.out now.out p.1)
@@ -160,8 +168,12 @@ is_done (ending.Ended outcome.Done) p = refl
 is_done (ending.Ended outcome.NoSeries) p = cc
 is_done (ending.Ended outcome.Usage) p = cc
 is_done (ending.Ended (outcome.RulesRefused f)) p = cc
+is_done (ending.Ended (outcome.NotOnline rule)) p = cc
 is_done (ending.Ended (outcome.ReadingsRefused f)) p = cc
 is_done (ending.Ended outcome.TooManyBounds) p = cc
+is_done (ending.Ended (outcome.WindowFull row)) p = cc
+is_done (ending.Ended (outcome.NoWholeStep row col)) p = cc
+is_done (ending.Ended (outcome.LeavesRange row col)) p = cc
 is_done (ending.Ended (outcome.CertRefused f)) p = cc
 is_done ending.ReadFault p = cc
 is_done ending.WriteFault p = cc
@@ -172,12 +184,32 @@ is_none (ending.Ended outcome.Done) p = cc
 is_none (ending.Ended outcome.NoSeries) p = refl
 is_none (ending.Ended outcome.Usage) p = cc
 is_none (ending.Ended (outcome.RulesRefused f)) p = cc
+is_none (ending.Ended (outcome.NotOnline rule)) p = cc
 is_none (ending.Ended (outcome.ReadingsRefused f)) p = cc
 is_none (ending.Ended outcome.TooManyBounds) p = cc
+is_none (ending.Ended (outcome.WindowFull row)) p = cc
+is_none (ending.Ended (outcome.NoWholeStep row col)) p = cc
+is_none (ending.Ended (outcome.LeavesRange row col)) p = cc
 is_none (ending.Ended (outcome.CertRefused f)) p = cc
 is_none ending.ReadFault p = cc
 is_none ending.WriteFault p = cc
 is_none ending.Memory p = cc
+
+pub is_read_fault : (how : Ending) → status_of how ≡ status.ReadFault → how ≡ ending.ReadFault
+is_read_fault ending.ReadFault p = refl
+is_read_fault (ending.Ended outcome.Done) p = cc
+is_read_fault (ending.Ended outcome.NoSeries) p = cc
+is_read_fault (ending.Ended outcome.Usage) p = cc
+is_read_fault (ending.Ended (outcome.RulesRefused f)) p = cc
+is_read_fault (ending.Ended (outcome.NotOnline rule)) p = cc
+is_read_fault (ending.Ended (outcome.ReadingsRefused f)) p = cc
+is_read_fault (ending.Ended outcome.TooManyBounds) p = cc
+is_read_fault (ending.Ended (outcome.WindowFull row)) p = cc
+is_read_fault (ending.Ended (outcome.NoWholeStep row col)) p = cc
+is_read_fault (ending.Ended (outcome.LeavesRange row col)) p = cc
+is_read_fault (ending.Ended (outcome.CertRefused f)) p = cc
+is_read_fault ending.WriteFault p = cc
+is_read_fault ending.Memory p = cc
 
 pub rules_short : (bytes : List ℕ) (rules : Rules) → ReadsFile bytes (Ok rules) → length bytes ≤ longest_rules
 rules_short bytes rules (inl p) = absurd (cc (p.1))

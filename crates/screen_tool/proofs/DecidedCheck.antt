@@ -1,17 +1,15 @@
 -- The headline of a command that checks a certificate, from what was performed.
-use Rattle.std.proofs.Common.{◌≡◌, ◌≢◌, inl, inr, ℕ, ◌≤◌, List, length, Option, Some, None, Result, Ok, Err, MatchResult, refl, sym, ap, subst, ◌∙◌}
+use Rattle.std.proofs.Common.{◌≡◌, ◌≢◌, inl, inr, ℕ, ◌≤◌, List, length, Option, Some, None, Result, Ok, Err, MatchResult, refl, sym, ap, ◌∙◌}
 use Rattle.cert_check.specs.Judges.{IsValid, Judges}
 use Rattle.cert_check.specs.Laws.{IsTrueClaim}
 use Rattle.cert_check.specs.declared.accepted.Accepted.{Accepted}
 use Rattle.cert_check.specs.declared.fault.CertFault.{CertFault}
 use Rattle.cert_format.specs.declared.limits.TheConstants.{LONGEST as longest_cert}
-use Rattle.rule_file.specs.File.{ReadsFile}
 use Rattle.rule_file.specs.declared.read.TheConstants.{LONGEST as longest_rules}
 use Rattle.rule_file.specs.declared.rules.Rules.{Rules}
 use Rattle.screen_io.specs.Faults.{Rose}
-use Rattle.series_csv.specs.File.{TableView, ReadsTable}
+use Rattle.series_csv.specs.File.{TableView}
 use Rattle.series_csv.specs.declared.table.TheConstants.{LONGEST as longest_readings}
-use Rattle.screen_words.specs.declared.command.Command.TheVariants.{Check}
 use Rattle.screen_words.specs.declared.ends.Inputs.{Inputs}
 use Rattle.screen_words.specs.declared.ends.Outputs.{Outputs}
 use Rattle.screen_words.specs.declared.status.Ending.{Ending}
@@ -23,12 +21,12 @@ use Rattle.screen_steps.specs.Answer.{Answer}
 use Rattle.screen_tool.specs.Checked.{AfterCert, AnswersChecked, accepted_answer, cert_refused, cert_too_long}
 use Rattle.screen_steps.specs.Files.{CertsAreOne}
 use Rattle.screen_words.specs.Ending.{IsUnless, outcome_status, status_of}
-use Rattle.screen_steps.specs.Files.{RulesAreOne, ReadingsAreOne, HasFewBounds}
-use Rattle.screen_tool.specs.HeadlineCheck.{CountsFault, DecidesCheck, HeadlineCheck, WritesAccepted}
-use Rattle.screen_steps.specs.Performance.{AreCut, AreWritten, IsAnswered, IsCut, IsWritten, Performs, Stops}
+use Rattle.screen_steps.specs.Files.{RulesAreOne, ReadingsAreOne}
+use Rattle.screen_tool.specs.HeadlineCheck.{CountsFault, HeadlineCheck, WritesAccepted}
+use Rattle.screen_steps.specs.Performance.{AreWritten, IsAnswered, Performs, Stops}
 use Rattle.screen_steps.proofs.AfterFile.{more_and_not}
-use Rattle.screen_tool.proofs.AnswerLaws.{checked_any, checked_cert, checked_has, checked_rests}
-use Rattle.screen_tool.proofs.Decided.{gained, is_done, not_written, rules_short, table_short, written_counted}
+use Rattle.screen_tool.proofs.AnswerLaws.{checked_cert, checked_has, checked_rests}
+use Rattle.screen_tool.proofs.Decided.{gained, is_done, not_written, out_counted, rules_short, table_short}
 use Rattle.screen_tool.proofs.Due.{front_read}
 
 -- ---- what is due over a certificate
@@ -90,13 +88,6 @@ module _ {K : Type 0} (held : K → Option (List ℕ)) (sink_faults : K → ℕ)
   no_cert Holds bytes answer p =
       checked_has Holds text (λ a. a.cert ≡ None) bytes answer refl (λ fault. refl) refl (λ fault. refl) refl refl (λ fault. refl) (λ written. refl) p
 
-  not_cut : (written : Option (List ℕ)) (sink now : K) → written ≡ None → IsCut held sink_faults written sink now → ⊥
-  not_cut written sink now p cut = subst (λ (t : Option (List ℕ)). IsCut held sink_faults t sink now) p cut
-
-  cut_counted : (answer : Answer) (outs now : Outputs K) → answer.cert ≡ None → AreCut held sink_faults answer outs now → Rose (sink_faults outs.out) (sink_faults now.out)
-  cut_counted answer outs now none (inl p) = absurd (not_cut answer.cert outs.cert now.cert none p.0)
-  cut_counted answer outs now none (inr p) = written_counted held sink_faults answer.out outs.out now.out p.1
-
 module _ {S K : Type 0} (left : S → Option (List ℕ)) (source_faults : S → ℕ) (held : K → Option (List ℕ)) (sink_faults : K → ℕ) (text : Rules → TableView → Accepted → List ℕ) where
   abbrev Any : Rules → TableView → Accepted → Type 0
   Any rules table accepted = Unit {0}
@@ -124,7 +115,7 @@ module _ {S K : Type 0} (left : S → Option (List ℕ)) (source_faults : S → 
   unless ins now outs outs_now due (ending.Ended o) p decide = inl (sym (ap outcome_status p.1) ∙ decide p.0 p.2)
   unless ins now outs outs_now due ending.ReadFault p decide = inr (inl (refl, stop_counted ins now p.0))
   unless ins now outs outs_now due ending.WriteFault p decide =
-      inr (inr (inl (refl, cut_counted held sink_faults text p.0 outs outs_now (no_cert held sink_faults text Any p.1.0 p.0 p.1.1) p.2)))
+      inr (inr (inl (refl, out_counted held sink_faults p.0 outs outs_now (no_cert held sink_faults text Any p.1.0 p.0 p.1.1) p.2)))
   unless ins now outs outs_now due ending.Memory p decide = inr (inr (inr refl))
 
   kept : (ins now : Inputs S) (outs outs_now : Outputs K) (how : Ending) → Performs left source_faults held sink_faults (AnswersChecked Any text) ins now outs outs_now how

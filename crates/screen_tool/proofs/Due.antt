@@ -3,7 +3,7 @@ use Rattle.std.proofs.Common.{◌≡◌, ◌≢◌, inl, inr, ℕ, List, Option,
 use Rattle.repair_report.specs.Report.{report_text}
 use Rattle.screen_io.proofs.WholeReads.{taken_front, taken_whole}
 use Rattle.screen_words.specs.declared.command.Command.{Command}
-use Rattle.screen_words.specs.declared.command.Command.TheVariants.{Check, Global, Report, Sample}
+use Rattle.screen_words.specs.declared.command.Command.TheVariants.{Check, Global, Online, Report, Sample}
 use Rattle.screen_words.specs.declared.ends.EndUse.{EndUse}
 use Rattle.screen_words.specs.declared.ends.EndUse.TheVariants.{Word, Input, Output, Nothing}
 use Rattle.screen_words.specs.declared.ends.Inputs.{Inputs}
@@ -16,6 +16,9 @@ use Rattle.screen_words.specs.Command.{roles_of}
 use Rattle.screen_words.specs.Ending.{outcome_status, status_of}
 use Rattle.screen_tool.specs.Check.{check_text}
 use Rattle.screen_steps.specs.Performance.{IsRead, IsAnswered, IsCut, IsWritten, LeavesUnused, Performs, AreTold, IsDue}
+use Rattle.screen_online.proofs.Answered.{online_unread, online_unwritten}
+use Rattle.screen_tool.specs.Leaves.{Leaves}
+use Rattle.screen_tool.proofs.Leaving.{leaves_ended}
 use Rattle.screen_tool.proofs.AnswerLaws.{checked_has, found_reads, global_has}
 use Rattle.screen_tool.proofs.SampleLaws.{sample_cert}
 
@@ -40,6 +43,7 @@ module _ {S : Type 0} (left : S → Option (List ℕ)) (source_faults : S → �
 pub rules_unread : (command : Option Command) (bytes : Inputs (List ℕ)) (answer : Answer) → Answers command bytes answer → (roles_of command).rules ≡ Nothing → answer.read.rules ≡ Unread
 rules_unread (Some Global) bytes answer p none = cc
 rules_unread (Some Check) bytes answer p none = cc
+rules_unread (Some Online) bytes answer p none = cc
 rules_unread (Some Report) bytes answer p none = cc
 rules_unread (Some (Sample rows seed)) bytes answer p none = ap (λ (a : Answer). a.read.rules) p.2
 rules_unread None bytes answer p none = ap (λ (a : Answer). a.read.rules) p
@@ -47,6 +51,7 @@ rules_unread None bytes answer p none = ap (λ (a : Answer). a.read.rules) p
 pub readings_unread : (command : Option Command) (bytes : Inputs (List ℕ)) (answer : Answer) → Answers command bytes answer → (roles_of command).readings ≡ Nothing → answer.read.readings ≡ Unread
 readings_unread (Some Global) bytes answer p none = cc
 readings_unread (Some Check) bytes answer p none = cc
+readings_unread (Some Online) bytes answer p none = cc
 readings_unread (Some Report) bytes answer p none = cc
 readings_unread (Some (Sample rows seed)) bytes answer p none = ap (λ (a : Answer). a.read.readings) p.2
 readings_unread None bytes answer p none = ap (λ (a : Answer). a.read.readings) p
@@ -56,6 +61,7 @@ cert_unread (Some Global) bytes answer p none =
     global_has (λ problem outcome. Unit {0}) (λ a. a.read.cert ≡ Unread) bytes answer refl (λ fault. refl) refl (λ fault. refl) refl
     (λ rules table outcome. ap (λ (read : Inputs Extent). read.cert) (found_reads rules table outcome)) p
 cert_unread (Some Check) bytes answer p none = cc
+cert_unread (Some Online) bytes answer p none = online_unread bytes answer p
 cert_unread (Some Report) bytes answer p none = cc
 cert_unread (Some (Sample rows seed)) bytes answer p none = ap (λ (a : Answer). a.read.cert) p.2
 cert_unread None bytes answer p none = ap (λ (a : Answer). a.read.cert) p
@@ -66,6 +72,7 @@ cert_unwritten : (command : Option Command) (bytes : Inputs (List ℕ)) (answer 
 cert_unwritten (Some Global) bytes answer p none = cc
 cert_unwritten (Some Check) bytes answer p none =
     checked_has (λ rules table accepted. Unit {0}) (λ rules table. check_text) (λ a. a.cert ≡ None) bytes answer refl (λ fault. refl) refl (λ fault. refl) refl refl (λ fault. refl) (λ written. refl) p
+cert_unwritten (Some Online) bytes answer p none = online_unwritten bytes answer p
 cert_unwritten (Some Report) bytes answer p none =
     checked_has (λ rules table accepted. Unit {0}) report_text (λ a. a.cert ≡ None) bytes answer refl (λ fault. refl) refl (λ fault. refl) refl refl (λ fault. refl) (λ written. refl) p
 cert_unwritten (Some (Sample rows seed)) bytes answer p none = sample_cert (λ problem outcome. Unit {0}) rows seed answer p
@@ -80,6 +87,7 @@ none_cut held sink_faults text sink now p cut = subst (λ (t : Option (List ℕ)
 out_unwritten : (command : Option Command) (bytes : Inputs (List ℕ)) (answer : Answer) → Answers command bytes answer → (roles_of command).out ≡ Nothing → answer.out ≡ None
 out_unwritten (Some Global) bytes answer p none = cc
 out_unwritten (Some Check) bytes answer p none = cc
+out_unwritten (Some Online) bytes answer p none = cc
 out_unwritten (Some Report) bytes answer p none = cc
 out_unwritten (Some (Sample rows seed)) bytes answer p none = cc
 out_unwritten None bytes answer p none = ap (λ (a : Answer). a.out) p
@@ -88,6 +96,7 @@ out_unwritten None bytes answer p none = ap (λ (a : Answer). a.out) p
 same_use : (command : Option Command) → (roles_of command).readings ≡ Nothing → (roles_of command).rules ≡ Nothing
 same_use (Some Global) none = cc
 same_use (Some Check) none = cc
+same_use (Some Online) none = cc
 same_use (Some Report) none = cc
 same_use (Some (Sample rows seed)) none = refl
 same_use None none = refl
@@ -139,9 +148,10 @@ module _ {S : Type 0} (left : S → Option (List ℕ)) (source_faults : S → �
 
 module _ {S K : Type 0} (left : S → Option (List ℕ)) (source_faults : S → ℕ) (held : K → Option (List ℕ)) (sink_faults : K → ℕ) where
   pub due : OneOutcome → RestsOnRead → (command : Option Command) (ins now : Inputs S) (outs outs_now : Outputs K) (how : Ending)
-      → Performs left source_faults held sink_faults (Answers command) ins now outs outs_now how → IsDue left (roles_of command) (Answers command) ins (status_of how)
+      → Leaves left source_faults held sink_faults command ins now outs outs_now how → IsDue left (roles_of command) (Answers command) ins (status_of how)
   due one rest command ins now outs outs_now ending.ReadFault p = λ bytes answer told given. inr (inl refl)
   due one rest command ins now outs outs_now ending.WriteFault p = λ bytes answer told given. inr (inr (inl refl))
   due one rest command ins now outs outs_now ending.Memory p = λ bytes answer told given. inr (inr (inr refl))
   due one rest command ins now outs outs_now (ending.Ended outcome) p = λ bytes answer told given.
-      inl (ap outcome_status (sym p.1 ∙ one command bytes p.0 answer (answered_told left source_faults rest command ins now bytes p.0 told p.2) given))
+      let q = leaves_ended left source_faults held sink_faults command ins now outs outs_now outcome p in
+      inl (ap outcome_status (sym q.1 ∙ one command bytes q.0 answer (answered_told left source_faults rest command ins now bytes q.0 told q.2) given))

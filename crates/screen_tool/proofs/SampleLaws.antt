@@ -1,5 +1,5 @@
 -- The laws of what `sample` answers.
-use Rattle.std.proofs.Common.{◌≡◌, inl, inr, ℕ, ℤ, pos, List, Option, Some, None, Result, Ok, Err, refl, sym, ap, subst, ◌∙◌}
+use Rattle.std.proofs.Common.{◌≡◌, inl, inr, ℕ, ℤ, pos, List, Some, None, Result, Ok, Err, refl, sym, ap, subst, ◌∙◌}
 use Rattle.bound_maker.specs.Costs.{whole_problem}
 use Rattle.least_cost.specs.Answer.{Answers as AnswersProblem}
 use Rattle.least_cost.specs.Repair.{RepairIsOne}

@@ -19,7 +19,7 @@ use Rattle.series_csv.specs.File.{TableView, ReadsTable}
 use Rattle.series_rows.specs.declared.fault.TableFault.{TableFault}
 use Rattle.sample_maker.specs.declared.make.TheConstants.{MOST_ROWS, MOST_SEED}
 use Rattle.screen_words.specs.declared.command.Command.{Command}
-use Rattle.screen_words.specs.declared.command.Command.TheVariants.{Check, Global, Report, Sample}
+use Rattle.screen_words.specs.declared.command.Command.TheVariants.{Check, Global, Online, Report, Sample}
 use Rattle.screen_words.specs.declared.ends.Inputs.{Inputs}
 use Rattle.screen_words.specs.declared.ends.Outputs.{Outputs}
 use Rattle.screen_steps.specs.declared.reply.Reply.{Reply}
@@ -154,7 +154,7 @@ sample_or_none false other p = tt
 pub words_limits : (words : List (List ℕ)) → HasLimits (command_of words)
 words_limits [] = tt
 words_limits (command ∷ []) = tt
-words_limits (command ∷ rows ∷ []) = tt
+words_limits (command ∷ rules ∷ []) = one_of (is_word (codes "online") command) Online None tt tt
 words_limits (command ∷ rows ∷ seed ∷ []) = sample_or_none (is_word (codes "sample") command) (sample_of (number_of rows) (number_of seed)) (sample_limits (number_of rows) (number_of seed))
 words_limits (command ∷ rules ∷ readings ∷ cert ∷ []) =
     one_of (is_word (codes "global") command) Global _ tt (one_of (is_word (codes "check") command) Check _ tt (one_of (is_word (codes "report") command) Report _ tt tt))

@@ -1,5 +1,5 @@
 -- From the steps of a command to what it performs.
-use Rattle.std.proofs.Common.{◌≡◌, ◌≢◌, inl, inr, ℕ, ◌+◌, ◌≤◌, ◌<◌, arith, List, [], length, Option, Some, None, Result, Ok, Err, OnOk, OnErr, MatchResult, refl, sym, subst}
+use Rattle.std.proofs.Common.{◌≡◌, ◌≢◌, inl, inr, ℕ, ◌≤◌, ◌<◌, List, [], length, Option, None, Result, Ok, Err, MatchResult, refl, sym, subst}
 use Rattle.global_repair.specs.declared.fault.RepairFault.{RepairFault}
 use Rattle.global_repair.specs.declared.fault.RepairFault.TheVariants as repair
 use Rattle.least_cost.specs.declared.outcome.Outcome.{Outcome as Found}
@@ -8,35 +8,26 @@ use Rattle.bound_maker.specs.Bounds.{made_bounds}
 use Rattle.bound_maker.specs.Costs.{made_problem}
 use Rattle.cert_check.specs.declared.accepted.Accepted.{Accepted}
 use Rattle.rule_file.specs.File.{ReadsFile}
-use Rattle.rule_file.specs.declared.fault.RuleFault.{RuleFault}
-use Rattle.screen_io.specs.Faults.{Rose, HasCause}
-use Rattle.screen_io.specs.Sink.{Gains, GainsPrefix}
-use Rattle.screen_io.specs.declared.source.Failed.{Failed}
 use Rattle.rule_file.specs.declared.read.TheConstants.{LONGEST as longest_rules}
 use Rattle.rule_file.specs.declared.rules.Rules.{Rules}
 use Rattle.screen_model.specs.Cost.{Problem}
 use Rattle.series_csv.specs.File.{TableView, ReadsTable}
 use Rattle.series_csv.specs.declared.table.TheConstants.{LONGEST as longest_readings}
-use Rattle.series_rows.specs.declared.fault.TableFault.{TableFault}
 use Rattle.screen_words.specs.declared.command.Command.{Command}
-use Rattle.screen_words.specs.declared.command.Command.TheVariants.{Global}
 use Rattle.screen_words.specs.declared.ends.Inputs.{Inputs}
-use Rattle.screen_words.specs.declared.ends.Outputs.{Outputs}
 use Rattle.screen_steps.specs.declared.reply.Reply.{Reply}
 use Rattle.screen_words.specs.declared.status.Ending.{Ending}
 use Rattle.screen_words.specs.declared.status.Ending.TheVariants as ending
 use Rattle.screen_words.specs.declared.status.Outcome.TheVariants.{Done, Usage}
-use Rattle.screen_words.specs.declared.step.StepFault.{StepFault}
-use Rattle.screen_words.specs.declared.step.StepFault.TheVariants as fault
-use Rattle.screen_steps.specs.Answer.{Extent, Whole, Answer}
+use Rattle.screen_steps.specs.Answer.{Extent, Answer}
 use Rattle.screen_tool.specs.Answers.{Answers, AnswersBy, usage}
-use Rattle.screen_steps.specs.Files.{AfterBoth, RulesAreOne, rules_too_long, rules_refused, readings_too_long, readings_refused, too_many_bounds}
+use Rattle.screen_steps.specs.Files.{RulesAreOne, too_many_bounds}
 use Rattle.screen_tool.specs.Global.{AnswersGlobal, AnswersGlobalBy, AnswersTableBy, IsFoundFor, answer_of}
-use Rattle.screen_steps.specs.Performance.{IsAnswerTo, IsRead, AreRead, IsAnswered, Stays, Stops, LeavesSinks, IsWritten, IsNoted, Performs}
-use Rattle.screen_steps.specs.Step.{Comes, IsFound, IsReplyOf, IsStopped, IsStep, WasRead, Ends, Replies}
-use Rattle.screen_words.specs.Faults.{rules_ending, readings_ending, repair_ending}
+use Rattle.screen_steps.specs.Performance.{AreRead, IsAnswered}
+use Rattle.screen_steps.specs.Step.{Comes, IsReplyOf, IsStep, Ends, Replies}
+use Rattle.screen_words.specs.Faults.{repair_ending}
+use Rattle.screen_steps.proofs.Reading.{texts_end}
 use Rattle.screen_tool.proofs.AnswerLaws.{any_answer, global_any, global_wholly, reads_both}
-use Rattle.screen_steps.proofs.BothFiles.{needs_readings, needs_rules}
 
 module _ {S : Type 0} (left : S → Option (List ℕ)) (source_faults : S → ℕ) where
   pub usage_ends : (command : Option Command) (ins : Inputs S) → command ≡ None → Ends left source_faults (Answers command) ins ins (ending.Ended Usage)
@@ -80,7 +71,7 @@ module _ {S : Type 0} (left : S → Option (List ℕ)) (source_faults : S → �
     table_comes law ins rules readings found table (Err ending.ReadFault) q p c = absurd c
     table_comes law ins rules readings found table (Err ending.WriteFault) q p c = absurd c
     table_comes law ins rules readings found table (Err ending.Memory) q p c =
-        texts_end (λ rules table cert. AnswersTableBy (λ problem outcome. Unit {0}) rules table) (global_wholly (λ problem outcome. Unit {0})) law ins rules readings found table q p
+        texts_end left source_faults (λ rules table cert. AnswersTableBy (λ problem outcome. Unit {0}) rules table) (global_wholly (λ problem outcome. Unit {0})) law ins rules readings found table q p
 
     -- the reply of a command is one of its answers, whatever is counted
     pub any_reply : (Holds : Rules → TableView → Accepted → Type 0) (command : Option Command) (ins now : Inputs S) (reply : Reply)
@@ -109,3 +100,13 @@ pub repair_comes : (Counts : Problem → Found → Type 0) (rules : Rules) (tabl
     → length (made_bounds rules table) ≤ MOST_BOUNDS → IsFoundFor rules table outcome → Counts (made_problem rules table) outcome → IsReplyOf (answer_of rules table outcome) reply
     → Comes (AnswersTableBy Counts rules table) (Ok reply)
 repair_comes Counts rules table outcome reply few is counts texts = (answer_of rules table outcome, texts, inr (few, (outcome, is, counts, refl)))
+
+-- ---- no refusal of a repair is a success, or of words
+
+pub repair_no_usage : (given : RepairFault) → repair_ending given ≢ ending.Ended Usage
+repair_no_usage repair.TooManyBounds e = cc
+repair_no_usage repair.Memory e = cc
+
+pub repair_no_done : (given : RepairFault) → repair_ending given ≢ ending.Ended Done
+repair_no_done repair.TooManyBounds e = cc
+repair_no_done repair.Memory e = cc

@@ -6,8 +6,9 @@ use Rattle.rule_file.specs.declared.rules.Rules.{Rules}
 use Rattle.screen_model.specs.Cost.{Problem}
 use Rattle.series_csv.specs.File.{TableView}
 use Rattle.screen_words.specs.declared.command.Command.{Command}
-use Rattle.screen_words.specs.declared.command.Command.TheVariants.{Check, Global, Report, Sample}
+use Rattle.screen_words.specs.declared.command.Command.TheVariants.{Check, Global, Online, Report, Sample}
 use Rattle.screen_words.specs.declared.ends.Inputs.{Inputs}
+use Rattle.screen_online.specs.Online.{AnswersOnline}
 use Rattle.screen_words.specs.declared.status.Outcome.TheVariants.{Usage}
 use Rattle.screen_steps.specs.Answer.{Unread, Answer, AreFronts}
 use Rattle.screen_tool.specs.Check.{AnswersCheckBy}
@@ -25,6 +26,7 @@ usage = without_texts Usage Unread Unread
 abbrev pub AnswersBy : (Problem → Found → Type 0) → (Rules → TableView → Accepted → Type 0) → Option Command → Inputs (List ℕ) → Answer → Type 0
 AnswersBy Counts Holds (Some Global) bytes answer = AnswersGlobalBy Counts bytes answer
 AnswersBy Counts Holds (Some Check) bytes answer = AnswersCheckBy Holds bytes answer
+AnswersBy Counts Holds (Some Online) bytes answer = AnswersOnline bytes answer
 AnswersBy Counts Holds (Some Report) bytes answer = AnswersReportBy Holds bytes answer
 AnswersBy Counts Holds (Some (Sample rows seed)) bytes answer = AnswersSampleBy Counts rows seed answer
 AnswersBy Counts Holds None bytes answer = answer ≡ usage

@@ -9,7 +9,7 @@ use Rattle.rule_file.specs.declared.rules.Rules.{Rules}
 use Rattle.series_csv.specs.File.{TableView}
 use Rattle.screen_words.specs.declared.ends.Inputs.{Inputs}
 use Rattle.screen_words.specs.declared.status.Outcome.TheVariants.{Done, CertRefused}
-use Rattle.screen_steps.specs.Answer.{Extent, Whole, Begun, Answer, AfterFile, AreOne}
+use Rattle.screen_steps.specs.Answer.{Extent, Whole, Begun, Answer, AfterFile}
 use Rattle.screen_steps.specs.Files.{AfterBoth, AfterBounds}
 
 -- The answer that writes nothing, where both files are whole and the certificate is read so far.

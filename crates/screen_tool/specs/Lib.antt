@@ -2,9 +2,11 @@ pub mod Answers
 pub mod Certificates
 pub mod Check
 pub mod Checked
+pub mod Checking
 pub mod Global
 pub mod Headline
 pub mod HeadlineCheck
+pub mod HeadlineOnline
+pub mod Leaves
 pub mod Report
 pub mod Sample
-pub mod Checking

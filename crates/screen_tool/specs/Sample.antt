@@ -1,5 +1,5 @@
 -- To be believed: what the command `sample` answers.
-use Rattle.std.specs.Prelude.{◌≡◌, ℕ, ◌+◌, ◌≤◌, ℤ, List, [], ◌∷◌, ◌++◌, codes, decimal, if◌then◌else◌, Option, Some, None, Result, Ok, Err}
+use Rattle.std.specs.Prelude.{◌≡◌, ◌≢◌, ℕ, ◌+◌, ◌≤◌, ℤ, List, [], ◌∷◌, ◌++◌, codes, decimal, if◌then◌else◌, Option, Some, None, Result, Ok, Err}
 use Rattle.std.specs.Fmt.{signed_decimal}
 use Rattle.std.specs.Ordering.{int_eq}
 use Rattle.bound_maker.specs.Costs.{made_problem, whole_problem}
@@ -18,10 +18,15 @@ use Rattle.screen_words.specs.declared.status.Outcome.TheVariants.{Done, NoSerie
 use Rattle.screen_io.specs.Sink.{Gains}
 use Rattle.sample_maker.specs.declared.make.TheConstants.{MOST_ROWS, MOST_SEED}
 use Rattle.screen_words.specs.declared.command.Command.{Command}
-use Rattle.screen_words.specs.declared.command.Command.TheVariants.{Check, Global, Report, Sample}
+use Rattle.screen_words.specs.declared.command.Command.TheVariants.{Check, Global, Online, Report, Sample}
 use Rattle.screen_words.specs.declared.ends.Outputs.{Outputs}
+use Rattle.screen_words.specs.Ending.{IsUnless}
+use Rattle.screen_words.specs.declared.status.Status.{Status}
+use Rattle.screen_words.specs.declared.status.Status.TheVariants as status
+use Rattle.screen_io.specs.Faults.{Rose}
 use Rattle.screen_steps.specs.Answer.{Unread, Answer}
-use Rattle.screen_steps.specs.Files.{AfterBounds, readings_refused, rules_refused, without_texts}
+use Rattle.screen_tool.specs.Headline.{SomeObeys}
+use Rattle.screen_steps.specs.Files.{AfterBounds, HasFewBounds, readings_refused, rules_refused, without_texts}
 
 -- one, if the value is another one
 abbrev pub one_if_changed : ℤ → ℤ → ℕ
@@ -84,6 +89,7 @@ abbrev pub HasLimits : Option Command → Type 0
 HasLimits (Some (Sample rows seed)) = (1 ≤ rows) × (rows ≤ MOST_ROWS) × (seed ≤ MOST_SEED)
 HasLimits (Some Global) = Unit {0}
 HasLimits (Some Check) = Unit {0}
+HasLimits (Some Online) = Unit {0}
 HasLimits (Some Report) = Unit {0}
 HasLimits None = Unit {0}
 
@@ -95,3 +101,18 @@ pub record WritesSummary {K : Type 0} (held : K → Option (List ℕ)) (Counts :
   pub text : List ℕ
   pub text_is : answer.out ≡ Some text
   pub out : Gains (held outs.out) text (held outs_now.out)
+
+-- The texts of the sample spell these rules and this table, of which no more than 4,000,000 bounds are made.
+pub record IsSample (rows seed : ℕ) (rules : Rules) (table : TableView) : Type 0 where
+  pub rules_are : ReadsFile rules_text (Ok rules)
+  pub table_is : ReadsTable rules (readings_text rows seed) (Ok table)
+  pub few : HasFewBounds rules table
+
+-- Apart from a counted write fault of the output and want of memory, 0 is answered exactly where some series obeys the bounds
+-- of the sample, and 1 exactly where none does. There is nothing to read, so no read fails.
+pub record DecidesSample {K : Type 0} (sink_faults : K → ℕ) (rows seed : ℕ) (outs outs_now : Outputs K) (given : Status) : Type 0 where
+  pub some : (rules : Rules) (table : TableView) → IsSample rows seed rules table → SomeObeys rules table
+      → IsUnless ⊥ (Rose (sink_faults outs.out) (sink_faults outs_now.out)) status.Done given
+  pub none : (rules : Rules) (table : TableView) → IsSample rows seed rules table → ¬ SomeObeys rules table
+      → IsUnless ⊥ (Rose (sink_faults outs.out) (sink_faults outs_now.out)) status.NoSeries given
+  pub no_read_fails : given ≢ status.ReadFault

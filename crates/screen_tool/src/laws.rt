@@ -8,6 +8,8 @@ pub fn one_outcome()
     ensures { OneOutcome }
 {
     files_are_one();
+    online_repair::outputs_are_one();
+    online_repair::refusals_stay();
 }
 
 /// The text of the output is one only, whatever flow is found. So a repaired file is a function of the two files that it is
@@ -16,6 +18,8 @@ pub fn one_text()
     ensures { OneText }
 {
     files_are_one();
+    online_repair::outputs_are_one();
+    online_repair::refusals_stay();
     least_cost::repair_is_one();
 }
 

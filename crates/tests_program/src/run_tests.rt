@@ -571,7 +571,7 @@ fn gives_the_usage(rt: &impl Abort, alloc: Global, texts: &[&str]) -> Result<(),
     let out = sink(alloc, &[])?;
     let ran = run_with(alloc, texts, rules, readings, out)?;
     let usage =
-        b"usage: screen global RULES READINGS CERT\n       screen check RULES READINGS CERT\n       screen report RULES READINGS CERT\n       screen sample ROWS SEED\n";
+        b"usage: screen global RULES READINGS CERT\n       screen check RULES READINGS CERT\n       screen online RULES\n       screen report RULES READINGS CERT\n       screen sample ROWS SEED\n";
     ran.assert_is(rt, Status::Usage, b"", b"", usage);
     Ok(())
 }

@@ -1,7 +1,7 @@
 use Rattle.std.proofs.lemmas.Result.{err_from_is_err_and}
 use Rattle.screen_steps.specs.Files.{HasFewBounds}
 use Rattle.screen_tool.proofs.CheckSteps.{cert_no_done, cert_no_usage, make_no_done, make_no_usage, unchecked_bounds, unchecked_cert, unchecked_readings, unchecked_rules}
-use Rattle.screen_steps.proofs.Reading.{err_one, readings_no_done, readings_no_usage, rules_no_done, rules_no_usage}
+use Rattle.screen_steps.proofs.Reading.{err_one, readings_no_done, readings_no_usage}
 use Rattle.screen_tool.proofs.checked.check_files.Goals as goal
 
 pub returns-in_err-rules-clause-checked : goal.returns-in_err-rules-clause-checked

@@ -2,4 +2,4 @@ use Rattle.screen_tool.proofs.AnswerLaws.{texts_one}
 use Rattle.screen_tool.proofs.laws.one_text.Goals as goal
 
 pub returns : goal.returns
-returns c = texts_one c.files_are_one.ensures.rules c.files_are_one.ensures.readings c.files_are_one.ensures.certs c.repair_is_one.ensures
+returns c = texts_one c.files_are_one.ensures.rules c.files_are_one.ensures.readings c.files_are_one.ensures.certs c.outputs_are_one.ensures c.refusals_stay.ensures c.repair_is_one.ensures

@@ -2,7 +2,7 @@ use Rattle.std.proofs.Common.{◌≡◌, ◌∙◌, Option, Some, MatchResult, a
 use Rattle.cert_check.specs.Laws.{IsTrueClaim}
 use Rattle.least_cost.specs.Answer.{CountsChanges}
 use Rattle.screen_words.specs.declared.command.Command.{Command}
-use Rattle.screen_words.specs.declared.command.Command.TheVariants.{Check, Global, Report, Sample}
+use Rattle.screen_words.specs.declared.command.Command.TheVariants.{Check, Global, Online, Report, Sample}
 use Rattle.screen_tool.specs.Answers.{Answers, AnswersBy}
 use Rattle.screen_tool.specs.Sample.{HasLimits}
 use Rattle.screen_steps.specs.Step.{Ends, Replies}
@@ -55,8 +55,20 @@ pub sample-requires : goal.sample-requires
 sample-requires g c =
     let inner : c.in-Some-Sample.field-0 ≡ Sample c.in-Some-Sample.rows c.in-Some-Sample.seed = rw c.in-Some-Sample.is at c.in-Some-Sample.field-0-is in
     let asked : c.args.command ≡ Some (Sample c.in-Some-Sample.rows c.in-Some-Sample.seed) = c.in-Some-Sample.is ∙ ap Some inner in
-    let limits : HasLimits (Some (Sample c.in-Some-Sample.rows c.in-Some-Sample.seed)) = subst HasLimits asked c.requires in
+    let limits : HasLimits (Some (Sample c.in-Some-Sample.rows c.in-Some-Sample.seed)) = subst HasLimits asked c.requires.limits in
     record { rows_least = limits.0; rows_most = limits.1; seed = limits.2 }
 
 pub returns-in-None-clause-answer : goal.returns-in-None-clause-answer
 returns-in-None-clause-answer g c = usage_ends g.S.Source.left g.S.Source.faults c.args.command c.args.ins.now c.in-None.is
+
+pub returns-in-Some-Online-clause-answer : goal.returns-in-Some-Online-clause-answer
+returns-in-Some-Online-clause-answer g c =
+    let inner : c.in-Some-Online.field-0 ≡ Online = rw c.in-Some-Online.is at c.in-Some-Online.field-0-is in
+    let asked : c.args.command ≡ Some Online = c.in-Some-Online.is ∙ ap Some inner in
+    absurd (c.requires.replies asked)
+
+pub returns-in-Some-Online-clause-usage : goal.returns-in-Some-Online-clause-usage
+returns-in-Some-Online-clause-usage g c =
+    let inner : c.in-Some-Online.field-0 ≡ Online = rw c.in-Some-Online.is at c.in-Some-Online.field-0-is in
+    let asked : c.args.command ≡ Some Online = c.in-Some-Online.is ∙ ap Some inner in
+    absurd (c.requires.replies asked)

@@ -1,5 +1,4 @@
-use Rattle.std.proofs.Common.{◌≤◌, ◌+◌, List, ℤ, drop, pos, slice_index_or, sym, ap, ◌∙◌, arith, rules, w64}
-use Rattle.std.specs.Ordering.{int_eq}
+use Rattle.std.proofs.Common.{List, ℤ, drop, pos, slice_index_or, ap, arith, rules, w64}
 use Rattle.std.proofs.lemmas.Int.{to_z-of_z}
 use Rattle.std.proofs.lemmas.List.{drop_all}
 use mir.Val.{SFits}

@@ -2,7 +2,8 @@ use Rattle.std.proofs.Common.{◌∙◌}
 use Rattle.std.proofs.lemmas.Result.{err_from_is_err_and}
 use Rattle.least_cost.specs.Answer.{CountsChanges}
 use Rattle.screen_tool.proofs.SampleSteps.{repair_comes, rules_come, summary_comes, table_comes}
-use Rattle.screen_steps.proofs.Reading.{err_one, readings_no_done, readings_no_usage, repair_no_done, repair_no_usage}
+use Rattle.screen_steps.proofs.Reading.{err_one, readings_no_done, readings_no_usage}
+use Rattle.screen_tool.proofs.Steps.{repair_no_done, repair_no_usage}
 use Rattle.screen_tool.proofs.sample.sample.Goals as goal
 
 pub returns-in_err-rules-clause-answer : goal.returns-in_err-rules-clause-answer

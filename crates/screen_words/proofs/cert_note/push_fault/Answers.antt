@@ -1,5 +1,5 @@
 use Rattle.std.proofs.Common.{rules}
-use Rattle.screen_tool.proofs.cert_note.push_fault.Goals as goal
+use Rattle.screen_words.proofs.cert_note.push_fault.Goals as goal
 
 pub returns-in-TotalWrong-clause-bytes : goal.returns-in-TotalWrong-clause-bytes
 returns-in-TotalWrong-clause-bytes c = search (rules, c.in-TotalWrong.is, c.push_sums.ensures.bytes)

@@ -1,6 +1,6 @@
 use Rattle.std.specs.Prelude.{codes, decimal}
 use Rattle.screen_words.proofs.NoteWords.{three_words}
-use Rattle.screen_tool.proofs.cert_note.push_place.Goals as goal
+use Rattle.screen_words.proofs.cert_note.push_place.Goals as goal
 
 pub returns-clause-bytes : goal.returns-clause-bytes
 returns-clause-bytes c =

@@ -1,7 +1,7 @@
 use Rattle.std.proofs.Common.{◌≡◌, ℕ, List, length, subst}
 use Rattle.screen_words.specs.Command.{number_of}
 use Rattle.screen_words.proofs.NumberWords.{from_value, some_of}
-use Rattle.screen_tool.proofs.command.number_from.Goals as goal
+use Rattle.screen_words.proofs.command.number_from.Goals as goal
 
 pub returns : goal.returns
 returns c =

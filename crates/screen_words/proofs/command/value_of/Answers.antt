@@ -1,7 +1,7 @@
 use Rattle.std.proofs.Common.{get_or, arith}
 use Rattle.std.proofs.lemmas.Str.Parse.{digit_at}
 use Rattle.cert_format.proofs.Digits.{AreRead, below_power, not_digit, read_more}
-use Rattle.screen_tool.proofs.command.value_of.Goals as goal
+use Rattle.screen_words.proofs.command.value_of.Goals as goal
 
 pub returns-then-not-is_ascii_digit-clause-none : goal.returns-then-not-is_ascii_digit-clause-none
 returns-then-not-is_ascii_digit-clause-none c = λ digits.
