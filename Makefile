@@ -53,6 +53,7 @@ test:
 	@tests/documents
 	@tests/program $(BINARY)
 	@tests/drawn_files $(BINARY)
+	@tests/drawn_streams $(BINARY)
 
 # What the documents copy from elsewhere is what stands there.
 check-docs:

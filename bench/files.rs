@@ -1,6 +1,8 @@
 //! Writes the files on which the whole program is measured: rules and readings of one kind, drawn from a seed.
 //!
 //! usage: files KIND READINGS FOLDER, which writes FOLDER/rules.toml and FOLDER/readings.csv
+//!
+//! The kind `stream-SECONDS` has a rule with that window, or none where it is 0.
 
 use std::fmt::Write;
 
@@ -19,6 +21,11 @@ impl Draws {
     }
 }
 
+/// What stands before the seconds in the name of a kind.
+const STREAM: &str = "stream-";
+
+const FORMAT: &str = "[format]\ndecimals = 0\n";
+
 const SPEED: &str = "[[speed]]\nsensor = \"level\"\nmin = -2\nmax = 2\nwindow = 10\n";
 
 fn trust(moment: usize) -> String {
@@ -26,8 +33,10 @@ fn trust(moment: usize) -> String {
 }
 
 fn rules(kind: &str, readings: usize) -> String {
-    let mut text = format!("[format]\ndecimals = 0\n\n{SPEED}");
+    let mut text = format!("{FORMAT}\n{SPEED}");
     match kind {
+        "stream-0" => text = String::from(FORMAT),
+        _ if kind.starts_with(STREAM) => text = text.replace("window = 10", &kind.replace(STREAM, "window = ")),
         "two" => {
             let other = SPEED.replace("level", "other");
             text += &format!("\n{other}\n[[between]]\nfirst = \"level\"\nsecond = \"other\"\nmin = 0\nmax = 50\n");
@@ -63,6 +72,7 @@ fn values(kind: &str, readings: usize, draws: &mut Draws) -> Vec<i64> {
     let mut values = walk(readings, draws);
     match kind {
         "spikes" | "two" => disturb(&mut values, 2, 500, draws),
+        _ if kind.starts_with(STREAM) => disturb(&mut values, 2, 500, draws),
         "noise5" => disturb(&mut values, 5, 100, draws),
         "noise20" => disturb(&mut values, 20, 100, draws),
         // The ends are trusted, and lie further apart than the level may go.

@@ -7,10 +7,16 @@
 # settles. `global` has no twin yet: it runs the built program on files of seven kinds, and prints its best time and the
 # greatest memory that it took.
 #
-# usage: bench/run.sh units|text_of|ticks|records|table|bounds|settle|blocked|global [ROUNDS]
+# `online` sends 1,000,000 rows of one sensor, one a second, from a pipe through the built program and through its twin, by a
+# rule with a window of 10, of 60, of 600 and of 4,000 seconds, with up to 4,096 rows held, and compares the bytes that they
+# write. It prints the best time of each, the ratio, the rows a second of the built program, and the greatest memory that
+# this one took for 100,000 and for 1,000,000 rows. Without a rule each row is written as the next one comes: that is what
+# reading and writing take alone.
+#
+# usage: bench/run.sh units|text_of|ticks|records|table|bounds|settle|blocked|global|online [ROUNDS]
 set -euo pipefail
 cd "$(dirname "$0")/.."
-what=${1:?usage: bench/run.sh units|text_of|ticks|records|table|bounds|settle|blocked|global [ROUNDS]}
+what=${1:?usage: bench/run.sh units|text_of|ticks|records|table|bounds|settle|blocked|global|online [ROUNDS]}
 rounds=${2:-5}
 
 # repair KIND READINGS: the whole program on files of that kind.
@@ -32,10 +38,59 @@ repair() {
     echo "$kind: $readings readings, $((best / 1000)) ms, $((memory * 1024 / readings)) bytes a reading"
 }
 
-if [ "$what" = global ]; then
+# through READINGS PROGRAM...: how many microseconds the readings take from a pipe through a program.
+through() {
+    local readings=$1 began=${EPOCHREALTIME/./}
+    shift
+    cat "$readings" | "$@" > /dev/null || return
+    echo $((${EPOCHREALTIME/./} - began))
+}
+
+# stream SECONDS: both sides in turn on a stream by a rule with that window, or without a rule where it is 0.
+stream() {
+    local seconds=$1 folder=bench/out/stream-$1 rows took best_plain= best_proved= memory=()
+    local readings=$folder/readings.csv twin_call=(bench/out/online 0 4096)
+    local program_call=(crates/screen/out/screen online "$folder/rules.toml")
+    [ "$seconds" = 0 ] || twin_call+=(level -2 2 1 "$seconds")
+    mkdir -p "$folder"
+    for rows in 100000 1000000; do
+        bench/out/files "stream-$seconds" "$rows" "$folder"
+        cat "$readings" | /usr/bin/time -f %M -o "$folder/memory" "${program_call[@]}" > "$folder/proved"
+        memory+=("$(tail -n 1 "$folder/memory")")
+    done
+    cat "$readings" | "${twin_call[@]}" > "$folder/plain"
+    cmp "$folder/plain" "$folder/proved"
+    for _ in $(seq "$rounds"); do
+        took=$(through "$readings" "${twin_call[@]}")
+        [ -n "$best_plain" ] && [ "$best_plain" -le "$took" ] || best_plain=$took
+        took=$(through "$readings" "${program_call[@]}")
+        [ -n "$best_proved" ] && [ "$best_proved" -le "$took" ] || best_proved=$took
+    done
+    awk -v seconds="$seconds" -v plain="$best_plain" -v proved="$best_proved" -v rows="$rows" -v memory="${memory[*]}" \
+        'BEGIN {
+            printf "%s: ", seconds == 0 ? "reading and writing alone" : "window of " seconds " seconds"
+            printf "plain %d ms, proved %d ms, ratio %.2f, ", plain / 1000, proved / 1000, proved / plain
+            split(memory, kilobytes)
+            printf "%d rows a second, %d kB at 100,000 rows, %d kB at 1,000,000\n", rows * 1000000 / proved, \
+                kilobytes[1], kilobytes[2]
+        }'
+}
+
+if [ "$what" = global ] || [ "$what" = online ]; then
     mkdir -p bench/out
     rustc -O -o bench/out/files bench/files.rs
     make all > bench/out/build.log 2>&1 || { tail -n 20 bench/out/build.log; exit 1; }
+fi
+
+if [ "$what" = online ]; then
+    rustc -O -o bench/out/online bench/twins/online.rs
+    for seconds in 0 10 60 600 4000; do
+        stream "$seconds"
+    done
+    exit
+fi
+
+if [ "$what" = global ]; then
     for kind in spikes noise5 noise20 two blocked step below; do
         repair "$kind" 20000
         repair "$kind" 200000

@@ -1,8 +1,7 @@
 -- Where the tracks stand after the oldest row was repaired.
-use Rattle.std.proofs.Common.{◌≡◌, ℕ, zero, suc, ◌+◌, ◌-◌, ◌<◌, ◌≤◌, ◌==◌, Bool, true, false, cond, ◌⊎◌, inl, inr, ℤ, List, [], ◌∷◌, length, map, set, take, drop, refl, sym, ap, ◌∙◌, subst, arith}
-use Rattle.std.specs.Prelude.{Option, Some, None, slice_get, slice_set}
+use Rattle.std.proofs.Common.{◌≡◌, ℕ, zero, suc, ◌-◌, ◌<◌, ◌==◌, Bool, true, false, cond, ℤ, List, [], ◌∷◌, set, take, drop, refl, sym, ap, ◌∙◌, subst, arith}
+use Rattle.std.specs.Prelude.{Option, Some, None, slice_get}
 use Rattle.std.specs.List.{AllByRecursion, AllZip}
-use Rattle.std.proofs.lemmas.Bool.{cases_Bool}
 use Rattle.std.proofs.lemmas.Bool.Decides.{nat_tests}
 use Rattle.rule_file.specs.declared.rules.Rules.{Rules}
 use Rattle.rule_file.specs.declared.rules.SpeedRule.{SpeedRule}
@@ -10,16 +9,15 @@ use Rattle.series_rows.specs.Header.{HeaderView}
 use Rattle.series_rows.specs.Row.{RowView, Rise, columns}
 use Rattle.series_rows.specs.declared.cell.RowReading.{RowReading}
 use Rattle.order_window.specs.declared.key.Key.{Key}
-use Rattle.online_values.specs.Results.{Speed, result}
-use Rattle.online_values.specs.Sensor.{SensorView, speed_of}
+use Rattle.online_values.specs.Sensor.{speed_of}
 use Rattle.online_repair.specs.Output.{is_small}
 use Rattle.online_repair.specs.Rows.{keys_in, reading_in, with_key}
 use Rattle.online_repair.specs.Sensors.{AreTracksOf, IsTrackOf, Repairs, RepairsOf, RepairsRow, RepairsTo, key_of, passed, place_in}
-use Rattle.online_repair.specs.Standing.{AreStanding, IsStanding, IsWindowed, last_result}
-use Rattle.online_repair.specs.Tracks.{IsBeyond, IsNear, last_after}
+use Rattle.online_repair.specs.Standing.{IsStanding, IsWindowed, last_result}
+use Rattle.online_repair.specs.Tracks.{IsBeyond, IsNear}
 use Rattle.online_repair.specs.declared.track.Track.{Track}
 use Rattle.online_repair.proofs.Columns.{changed}
-use Rattle.online_repair.proofs.Rules.{HasRule, no_track, place_inside, place_passed, rule_of_track, same_track, slice_get_passed, slice_get_passed_none, tracks_passed}
+use Rattle.online_repair.proofs.Rules.{no_track, same_track}
 use Rattle.online_repair.proofs.Standing.{later_columns}
 use Rattle.online_repair.proofs.Values.{IsSameAt, own_first, same_changed, same_itself, track_value}
 

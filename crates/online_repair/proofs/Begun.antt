@@ -1,21 +1,20 @@
 -- An engine that has accepted nothing.
-use Rattle.std.proofs.Common.{◌≡◌, ℕ, zero, suc, ◌<◌, ◌≤◌, ◌^◌, ℤ, List, [], ◌∷◌, length, take, refl, sym, ap, ◌∙◌, subst, arith}
-use Rattle.std.specs.Prelude.{Option, Some, None, slice_get}
+use Rattle.std.proofs.Common.{◌≡◌, ℕ, zero, suc, ◌≤◌, List, [], ◌∷◌, length, take, sym, ap, ◌∙◌, subst, arith}
+use Rattle.std.specs.Prelude.{Some, slice_get}
 use Rattle.std.specs.List.{AllByRecursion}
 use Rattle.circular_buffer.specs.Buffer.{Buffer, buffer}
-use Rattle.rule_file.specs.Limits.{IsFormat}
 use Rattle.rule_file.specs.declared.rules.Rules.{Rules}
 use Rattle.rule_file.specs.declared.rules.SpeedRule.{SpeedRule}
 use Rattle.series_rows.specs.Header.{HeaderView}
 use Rattle.series_rows.specs.Row.{RowView}
 use Rattle.series_rows.specs.declared.limits.TheConstants.{MOST_ENDLESS_ROWS}
-use Rattle.online_repair.specs.Accepted.{greatest_window, held}
-use Rattle.online_repair.specs.Engines.{AreRows, Stands}
+use Rattle.online_repair.specs.Accepted.{greatest_window}
+use Rattle.online_repair.specs.Engines.{AreRows}
 use Rattle.online_repair.specs.Keeping.{Keeps}
 use Rattle.online_repair.specs.Rows.{keys_in}
-use Rattle.online_repair.specs.Sensors.{AreTracksOf, HaveSeen, IsNew, place_in}
+use Rattle.online_repair.specs.Sensors.{AreTracksOf, HaveSeen, IsNew}
 use Rattle.online_repair.specs.Shown.{AreShown}
-use Rattle.online_repair.specs.Standing.{AreStanding, IsStanding, IsWindowed}
+use Rattle.online_repair.specs.Standing.{AreStanding, IsStanding}
 use Rattle.online_repair.specs.declared.engine.Engine.{Engine}
 use Rattle.online_repair.specs.declared.track.Track.{Track}
 use Rattle.online_repair.proofs.Rules.{no_track, same_track}

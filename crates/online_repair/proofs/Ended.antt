@@ -1,7 +1,6 @@
 -- The text at the end of a file.
-use Rattle.std.proofs.Common.{◌≡◌, ℕ, zero, suc, ◌+◌, ◌||◌, not, Bool, true, false, cond, ℤ, List, [], ◌∷◌, ◌++◌, length, map, reverse, refl, sym, ap, ◌∙◌, subst, arith, append_assoc, append-nil, length-append}
+use Rattle.std.proofs.Common.{◌≡◌, ℕ, suc, ◌+◌, Bool, true, false, cond, List, [], ◌∷◌, ◌++◌, length, reverse, refl, sym, ap, ◌∙◌, subst, arith, append_assoc, append-nil, length-append}
 use Rattle.std.specs.Prelude.{Option, Some, None, Result, Ok, Err, option_map}
-use Rattle.std.specs.List.{find, list_all}
 use Rattle.std.specs.Option.{option_or}
 use Rattle.std.proofs.lemmas.List.{length-reverse, reverse-append, reverse-reverse}
 use Rattle.rule_file.specs.declared.rules.Rules.{Rules}
@@ -11,13 +10,13 @@ use Rattle.series_rows.specs.Texts.{row_text_with}
 use Rattle.series_rows.specs.declared.cell.RowReading.{RowReading}
 use Rattle.online_repair.specs.Engines.{Stands, WritesRows}
 use Rattle.online_repair.specs.Keeping.{EndStops, Ends, EndsWell, Keeps}
-use Rattle.online_repair.specs.Output.{is_small, leaving, texts, too_large}
+use Rattle.online_repair.specs.Output.{leaving, texts, too_large}
 use Rattle.online_repair.specs.Rows.{repaired_row}
 use Rattle.online_repair.specs.Shown.{AreShown, AreSmallRows}
 use Rattle.online_repair.specs.Storing.{onto, rows_text}
 use Rattle.online_repair.specs.declared.engine.Engine.{Engine}
 use Rattle.online_repair.specs.declared.fault.OnlineFault.{OnlineFault}
-use Rattle.online_repair.specs.declared.fault.OnlineFault.TheVariants.{LeavesRange, Memory}
+use Rattle.online_repair.specs.declared.fault.OnlineFault.TheVariants.{LeavesRange}
 use Rattle.online_repair.proofs.Stopped.{IsStop, all_none, is_stop, not_all, onto_append, value_of}
 use Rattle.online_repair.proofs.Stored.{are_written, length_onto}
 use Rattle.online_repair.proofs.Texts.{onto_is, onto_reverse, small_append, text_append, text_shown}

@@ -1,6 +1,6 @@
 -- What is answered to the end of a file.
-use Rattle.std.proofs.Common.{◌≡◌, ◌&&◌, ℕ, Bool, true, false, List, [], ◌∷◌, ◌++◌, reverse, refl, sym, ap, ◌∙◌, subst, append_assoc, append-nil}
-use Rattle.std.specs.Prelude.{IsSome, Option, Some, None, Result, Ok, Err, is_none, option_map}
+use Rattle.std.proofs.Common.{◌≡◌, ℕ, true, false, List, [], ◌++◌, refl, sym, ap, ◌∙◌, subst, append_assoc, append-nil}
+use Rattle.std.specs.Prelude.{Option, Some, None, Result, Ok, Err, option_map}
 use Rattle.std.specs.Option.{option_or}
 use Rattle.rule_file.specs.declared.rules.Rules.{Rules}
 use Rattle.series_rows.specs.Header.{HeaderView}
@@ -10,26 +10,26 @@ use Rattle.series_rows.specs.declared.fault.TableFault.{TableFault}
 use Rattle.series_rows.specs.declared.limits.Limits.TheVariants.{Endless}
 use Rattle.series_csv.specs.Feeds as reader
 use Rattle.series_csv.specs.Feeds.{refused_by, with_event}
-use Rattle.series_csv.specs.File.{ReadsEnded, ReadsSoFar}
+use Rattle.series_csv.specs.File.{ReadsEnded}
 use Rattle.series_csv.specs.Read.{Read}
-use Rattle.series_csv.specs.Stays.{Continues, FilesHaveOneAnswer, ReadStays}
+use Rattle.series_csv.specs.Stays.{FilesHaveOneAnswer, ReadStays}
 use Rattle.series_csv.specs.declared.event.Event.{Event}
 use Rattle.online_repair.specs.Accepted.{Accepted, accept}
 use Rattle.online_repair.specs.Faults.{fault_of}
-use Rattle.online_repair.specs.Feeds.{Answers, Appends, AppendsPart, Refuses}
+use Rattle.online_repair.specs.Feeds.{Answers, Appends, AppendsPart}
 use Rattle.online_repair.specs.Keeping.{Ends, HasKept, Keeps}
 use Rattle.online_repair.specs.Output.{IsOutput, Output, leaving, output, output_of, output_with, texts}
-use Rattle.online_repair.specs.StandsFor.{EngineEnded, EngineKeeps, GoesOn, IsOver}
+use Rattle.online_repair.specs.StandsFor.{EngineEnded, EngineKeeps, GoesOn}
 use Rattle.online_repair.specs.Streams.{Finishes, HasReadLast, MayTake, ReadsLast, StopsAll, StopsBy, TakesEvent}
 use Rattle.online_repair.specs.declared.engine.Engine.{Engine}
 use Rattle.online_repair.specs.declared.fault.OnlineFault.{OnlineFault}
-use Rattle.online_repair.specs.declared.fault.OnlineFault.TheVariants.{Memory, Table}
+use Rattle.online_repair.specs.declared.fault.OnlineFault.TheVariants.{Table}
 use Rattle.online_repair.specs.declared.stream.Stream.{Stream}
 use Rattle.online_repair.proofs.FromFile.{ended_header}
-use Rattle.online_repair.proofs.Joined.{appends_none, join_appends, join_part}
+use Rattle.online_repair.proofs.Joined.{appends_none, appends_nothing, join_appends, join_part}
 use Rattle.online_repair.proofs.Outputs.{all_of}
 use Rattle.online_repair.proofs.Pieces.{IsRefused, event_fault, goes_same, grown_output, is_refused, not_memory, refused_appends, same_output}
-use Rattle.online_repair.proofs.Taking.{kept_text, so_far, stops_texts}
+use Rattle.online_repair.proofs.Taking.{so_far, stops_texts}
 
 -- ---- the end is an empty piece
 
@@ -61,6 +61,16 @@ end_stops one rules bytes read fault old new reads stops =
             stays = λ out is_out. (later before out is is_out).0 other;
           },
       λ memory before out is is_out. (later before out is is_out).1 memory,
+      λ memory before is. record {
+        front = [];
+        rest = [];
+        piece_is = refl;
+        over = true;
+        over_is = λ ended. (refl, refl);
+        now = output rules true read;
+        is_output = from_end rules bytes (output rules true read) (record { read = read; reads = reads; is = refl });
+        part = (stops before is).1 memory;
+      },
     )
 
 -- ---- the last record
@@ -132,6 +142,7 @@ last_refused one stay rules bytes fault old text goes ends =
           },
       λ memory before out is is_out.
           grown_output rules true (bytes ++ []) goes.read is_out.read old.engine before out text goes.not_refused goes.engine is_out.reads ((stay rules Endless bytes [] goes.read goes.reads).ended is_out.read is_out.reads) (first before is) is_out.is,
+      λ memory before is. appends_nothing rules true bytes [] text before is,
     )
 
 -- ---- all rows are written

@@ -1,7 +1,7 @@
 -- The readings of a sensor in the rows that are accepted follow one another.
-use Rattle.std.proofs.Common.{◌≡◌, ℕ, zero, suc, ◌&&◌, Bool, true, false, cond, ℤ, ◌-ℤ◌, ◌≤ℤ◌, ◌<ℤ◌, List, [], ◌∷◌, ◌++◌, reverse, refl, sym, ap, ◌∙◌, subst, arith, append_assoc, append-nil, IsTrue}
+use Rattle.std.proofs.Common.{◌≡◌, ℕ, ◌&&◌, Bool, true, false, cond, ℤ, ◌-ℤ◌, ◌≤ℤ◌, ◌<ℤ◌, List, [], ◌∷◌, ◌++◌, reverse, refl, sym, ap, ◌∙◌, subst, arith, append_assoc, append-nil}
 use Rattle.std.specs.Prelude.{Option, Some, None, ◌==◌, int_le, int_lt, option_map}
-use Rattle.std.specs.List.{AllByRecursion, find}
+use Rattle.std.specs.List.{find}
 use Rattle.std.proofs.lemmas.Bool.Decides.{nat_tests}
 use Rattle.std.proofs.lemmas.Int.{ints}
 use Rattle.std.proofs.lemmas.List.{reverse-append, reverse-reverse}
@@ -12,12 +12,11 @@ use Rattle.series_rows.specs.Header.{HeaderView}
 use Rattle.series_rows.specs.Row.{RowView}
 use Rattle.series_rows.specs.declared.cell.RowReading.{RowReading}
 use Rattle.order_window.specs.declared.key.Key.{Key}
-use Rattle.online_values.specs.Laws.{AreReadings, CostsLeast, Follows, IsSeries, IsSeriesBack, KeepsRates}
-use Rattle.online_values.specs.Results.{Speed, greatest_step, is_within, least_step}
+use Rattle.online_values.specs.Laws.{AreReadings, Follows, IsSeries, IsSeriesBack}
+use Rattle.online_values.specs.Results.{Speed, greatest_step, least_step}
 use Rattle.online_values.specs.Sensor.{speed_of}
-use Rattle.online_values.proofs.Steps.{le_true}
-use Rattle.online_repair.specs.Accepted.{Accepted, accept, greatest_window, held, is_full, lacks_step, lacks_step_by, refusal, unless_refused, without_step}
-use Rattle.online_repair.specs.Laws.{CostLeast, IsReading, KeepRates}
+use Rattle.online_repair.specs.Accepted.{accept, greatest_window, held, is_full, lacks_step, lacks_step_by, refusal, unless_refused, without_step}
+use Rattle.online_repair.specs.Laws.{IsReading}
 use Rattle.online_repair.specs.Rows.{keys_in, reading_in, rule_in, with_key}
 use Rattle.online_repair.specs.Standing.{FallsFrom}
 use Rattle.online_repair.specs.declared.fault.OnlineFault.{OnlineFault}

@@ -2,10 +2,9 @@
 use Rattle.std.proofs.Common.{◌≡◌, ℕ, Bool, true, false, List, [], ◌++◌, refl, sym, ap, ◌∙◌, subst, append_assoc, append-nil}
 use Rattle.std.specs.Prelude.{Option, Some, None, Result, Ok, Err}
 use Rattle.rule_file.specs.declared.rules.Rules.{Rules}
-use Rattle.online_repair.specs.Feeds.{Answers, Appends, AppendsPart, Refuses, Takes}
+use Rattle.online_repair.specs.Feeds.{Answers, Appends, AppendsFront, AppendsPart, Refuses, Takes}
 use Rattle.online_repair.specs.Output.{IsOutput, Output}
 use Rattle.online_repair.specs.declared.fault.OnlineFault.{OnlineFault}
-use Rattle.online_repair.specs.declared.fault.OnlineFault.TheVariants.{Memory}
 
 -- ---- texts
 
@@ -56,6 +55,34 @@ join_refuses rules bytes front rest piece fault old middle new before e takes re
       (here.0, join_appends before takes.now now old middle new takes.appends here.1);
 }
 
+pub never_over : {A : Type 0} → false ≡ true → A
+never_over e = cc
+
+-- nothing was appended, and a front of the piece that is empty has the output before
+pub appends_nothing : (rules : Rules) (ended : Bool) (bytes piece text : List ℕ) (before : Output) → IsOutput rules false bytes before → AppendsFront rules ended bytes piece text text before
+appends_nothing rules ended bytes piece text before is = record {
+  front = [];
+  rest = piece;
+  piece_is = refl;
+  over = false;
+  over_is = never_over;
+  now = before;
+  is_output = at_bytes rules false bytes (bytes ++ []) before (sym (append-nil bytes)) is;
+  part = record { added = []; rest = []; output_is = sym (append-nil before.text) ∙ sym (append-nil (before.text ++ [])); text_is = sym (append-nil text) };
+}
+
+join_front : (rules : Rules) (bytes front rest piece : List ℕ) (old middle new : List ℕ) (before : Output) → piece ≡ front ++ rest → (takes : Takes rules false bytes front None old middle before) → AppendsFront rules false (bytes ++ front) rest middle new takes.now → AppendsFront rules false bytes piece old new before
+join_front rules bytes front rest piece old middle new before e takes next = record {
+  front = front ++ next.front;
+  rest = next.rest;
+  piece_is = e ∙ ap (λ (more : List ℕ). front ++ more) next.piece_is ∙ sym (append_assoc front next.front next.rest);
+  over = next.over;
+  over_is = next.over_is;
+  now = next.now;
+  is_output = at_bytes rules next.over ((bytes ++ front) ++ next.front) (bytes ++ (front ++ next.front)) next.now (append_assoc bytes front next.front) next.is_output;
+  part = join_part before takes.now next.now old middle new takes.appends next.part;
+}
+
 -- a piece was taken, and the rest of it is answered
 pub join_answers : (rules : Rules) (bytes front rest piece : List ℕ) (result : Result (Unit {0}) OnlineFault) (old middle new : List ℕ) → piece ≡ front ++ rest → Answers rules false bytes front (Ok tt) old middle → Answers rules false (bytes ++ front) rest result middle new → Answers rules false bytes piece result old new
 join_answers rules bytes front rest piece (Ok done) old middle new e first second = λ before is.
@@ -69,4 +96,7 @@ join_answers rules bytes front rest piece (Err fault) old middle new e first sec
       let takes = first before is in
       join_part before takes.now now old middle new takes.appends
       (second.1 memory takes.now now takes.is_output (at_bytes rules false (bytes ++ piece) ((bytes ++ front) ++ rest) now (whole_piece bytes front rest piece e) is_now)),
+  λ memory before is.
+      let takes = first before is in
+      join_front rules bytes front rest piece old middle new before e takes (second.2 memory takes.now takes.is_output),
 )

@@ -1,38 +1,30 @@
 -- What is kept after a row was accepted.
-use Rattle.std.proofs.Common.{◌≡◌, ℕ, zero, suc, ◌+◌, ◌<◌, ◌≤◌, ◌||◌, ◌&&◌, Bool, true, false, cond, ℤ, ◌-ℤ◌, ◌≤ℤ◌, ◌<ℤ◌, List, [], ◌∷◌, ◌++◌, length, reverse, refl, sym, ap, ◌∙◌, subst, arith, append_assoc, append-nil, length-append}
-use Rattle.std.specs.Prelude.{Option, Some, None, Result, Ok, Err, int_le, int_lt, nat_le, option_map, slice_get}
-use Rattle.std.specs.List.{AllByRecursion, find, list_any}
-use Rattle.std.proofs.lemmas.List.{length-reverse, reverse-append}
+use Rattle.std.proofs.Common.{◌≡◌, ℕ, false, ℤ, ◌-ℤ◌, ◌<ℤ◌, List, [], ◌∷◌, ◌++◌, length, reverse, sym, ap, ◌∙◌, subst, arith, length-append}
+use Rattle.std.specs.Prelude.{Option, None, Result, Ok, Err, option_map}
+use Rattle.std.specs.List.{find}
+use Rattle.std.proofs.lemmas.List.{reverse-append}
 use Rattle.std.proofs.lemmas.Int.{ints}
-use Rattle.words.proofs.Lists.{all_weaker, all_push, all_reverse, all_of_append, reverse_cons}
+use Rattle.words.proofs.Lists.{all_weaker, all_of_append}
 use Rattle.rule_file.specs.declared.rules.Rules.{Rules}
 use Rattle.series_rows.specs.Header.{HeaderView}
 use Rattle.series_rows.specs.Row.{RowView}
 use Rattle.series_rows.specs.declared.cell.RowReading.{RowReading}
-use Rattle.series_rows.specs.declared.limits.TheConstants.{MOST_ENDLESS_ROWS}
-use Rattle.order_window.specs.declared.key.Key.{Key}
-use Rattle.online_repair.specs.Accepted.{greatest_window, held, is_full, is_ready, refusal, without_step}
-use Rattle.online_repair.specs.Engines.{AreRows, Stands, WritesRows, due_part, is_full_at, rest_part}
-use Rattle.online_repair.specs.Keeping.{Accepts, AcceptsBy, AreBefore, Holds, IsNext, Keeps}
-use Rattle.online_repair.specs.Rows.{keys_in, reading_in, with_key}
-use Rattle.online_repair.specs.Sensors.{HaveSeen, IsTimeBefore, WereSeenBefore, lacks_step_at, latest, place_in}
-use Rattle.online_repair.specs.Standing.{AreStanding}
-use Rattle.online_repair.specs.Storing.{ArePast, CanStore, IsStored, MayStore, Stores, StoresOf, onto}
-use Rattle.online_repair.specs.Tracks.{RisesFrom}
+use Rattle.online_repair.specs.Accepted.{held}
+use Rattle.online_repair.specs.Engines.{due_part, is_full_at, rest_part}
+use Rattle.online_repair.specs.Keeping.{Accepts, AcceptsBy, Holds, IsNext, Keeps}
+use Rattle.online_repair.specs.Sensors.{HaveSeen, lacks_step_at, place_in}
+use Rattle.online_repair.specs.Storing.{ArePast, IsStored, StoresOf, onto}
 use Rattle.online_repair.specs.declared.engine.Engine.{Engine}
 use Rattle.online_repair.specs.declared.fault.OnlineFault.{OnlineFault}
-use Rattle.online_repair.specs.declared.fault.OnlineFault.TheVariants.{WindowFull, NoWholeStep}
 use Rattle.online_repair.specs.declared.track.Track.{Track}
 use Rattle.online_repair.proofs.Round.{due_whole}
-use Rattle.online_repair.proofs.Steps.{without_is}
 use Rattle.online_repair.proofs.Stored.{due_fall, due_past, past_onto, rest_room}
-use Rattle.online_repair.specs.Keeping.{AddsText}
 use Rattle.online_repair.specs.Output.{texts}
 use Rattle.online_repair.specs.Shown.{AreShown, AreSmallRows}
 use Rattle.online_repair.specs.Storing.{rows_text}
 use Rattle.online_repair.proofs.Accepting.{IsLikeEngine, joined_by, keep, keep_held, held_push, not_refused, reverse_onto}
 use Rattle.online_repair.proofs.Stopped.{stops}
-use Rattle.online_repair.proofs.Texts.{IsOneMore, one_more}
+use Rattle.online_repair.proofs.Texts.{one_more}
 
 later_past : (most a b ticks : ℤ) → a <ℤ b → most <ℤ (a -ℤ ticks) → most <ℤ (b -ℤ ticks)
 later_past most a b ticks h g = omega (arith, ints)

@@ -1,11 +1,9 @@
 -- Values that are too large, and the row when none is.
-use Rattle.std.proofs.Common.{◌≡◌, ℕ, zero, suc, ◌+◌, ◌<◌, ◌≤◌, Bool, true, false, not, cond, ◌⊎◌, inl, inr, ◌&&◌, ℤ, pos, ◌<ℤ◌, List, [], ◌∷◌, ◌++◌, length, map, get_or, drop, FitsSigned, to_z, of_z, refl, sym, ap, ◌∙◌, subst, arith, drop-cons, add-one}
+use Rattle.std.proofs.Common.{◌≡◌, ℕ, suc, ◌+◌, ◌<◌, ◌≤◌, Bool, true, false, not, cond, ℤ, List, [], ◌∷◌, length, map, get_or, drop, refl, sym, ap, ◌∙◌, subst, arith, drop-cons, add-one}
 use Rattle.std.specs.Prelude.{Option, Some, None, nat_le, unsigned_abs, IsTrue}
-use Rattle.std.specs.Int.{w64}
 use Rattle.std.specs.List.{AllByRecursion, find, list_all}
 use Rattle.std.proofs.lemmas.Bool.{and_from}
 use Rattle.std.proofs.lemmas.Bool.Decides.{nat_tests}
-use Rattle.std.proofs.lemmas.Int.{to_z-of_z}
 use Rattle.fix_point.specs.declared.scale.TheConstants.{MOST_UNITS}
 use Rattle.rule_file.specs.declared.rules.Rules.{Rules}
 use Rattle.series_rows.specs.Header.{HeaderView}
@@ -13,10 +11,9 @@ use Rattle.series_rows.specs.ReadBack.{AreValuesOf}
 use Rattle.series_rows.specs.Row.{RowView}
 use Rattle.series_rows.specs.declared.cell.RowReading.{RowReading}
 use Rattle.online_repair.specs.Engines.{IsTooLarge, first_large}
-use Rattle.online_repair.specs.Output.{is_small, too_large}
+use Rattle.online_repair.specs.Output.{is_small}
 use Rattle.online_repair.specs.Rows.{repaired, repaired_row, rule_in}
 use Rattle.online_repair.specs.Sensors.{RepairsRow}
-use Rattle.online_repair.specs.declared.fault.OnlineFault.{OnlineFault}
 use Rattle.online_repair.specs.declared.fault.OnlineFault.TheVariants.{LeavesRange}
 use Rattle.online_repair.specs.declared.track.Track.{Track}
 use Rattle.online_repair.proofs.After.{AreSmall}

@@ -1,22 +1,16 @@
 -- The laws of the repaired rows.
-use Rattle.std.proofs.Common.{◌≡◌, ℕ, Bool, ℤ, ◌-ℤ◌, ◌≤ℤ◌, List, [], ◌∷◌, ◌++◌, reverse, refl, sym, ap, ◌∙◌, subst, IsTrue}
-use Rattle.std.specs.Prelude.{Option, Some, None, option_map}
+use Rattle.std.proofs.Common.{◌≡◌, ℕ, ℤ, ◌-ℤ◌, ◌≤ℤ◌, List, [], ◌∷◌, ◌++◌, reverse, sym, ap, ◌∙◌, subst}
+use Rattle.std.specs.Prelude.{Option, Some, option_map}
 use Rattle.std.proofs.lemmas.List.{reverse-reverse}
-use Rattle.rule_file.specs.declared.rules.Rules.{Rules}
-use Rattle.rule_file.specs.declared.rules.SpeedRule.{SpeedRule}
-use Rattle.series_rows.specs.Header.{HeaderView}
 use Rattle.series_rows.specs.Row.{RowView}
-use Rattle.series_csv.specs.Read.{Read}
 use Rattle.order_window.specs.declared.key.Key.{Key}
 use Rattle.online_values.specs.Laws.{AreReadings, CostsLeast, KeepsRates}
 use Rattle.online_values.specs.Results.{Speed, greatest_step, least_step, result}
 use Rattle.online_values.specs.Sensor.{speed_of}
 use Rattle.online_values.proofs.Steps.{le_true}
 use Rattle.online_repair.specs.Accepted.{accept}
-use Rattle.online_repair.specs.Laws.{CostLeast, IsReading, KeepRates, RepairsCostLeast, RepairsKeepRates}
-use Rattle.online_repair.specs.Output.{Reads}
+use Rattle.online_repair.specs.Laws.{RepairsCostLeast, RepairsKeepRates}
 use Rattle.online_repair.specs.Rows.{keys_in, with_key}
-use Rattle.online_repair.specs.declared.fault.OnlineFault.{OnlineFault}
 use Rattle.online_repair.specs.declared.fault.OnlineFault.TheVariants.{Table}
 use Rattle.online_repair.proofs.Beyond.{keys_append}
 use Rattle.online_repair.proofs.FromFile.{read_placed}

@@ -1,11 +1,11 @@
 -- What is left of a piece, while it is taken up to the end of one record after the other.
-use Rattle.std.proofs.Common.{◌≡◌, ℕ, true, false, List, [], ◌++◌, take, drop, refl, sym, ap, ◌∙◌, subst, append_assoc, append-nil}
+use Rattle.std.proofs.Common.{◌≡◌, ℕ, false, List, [], ◌++◌, take, drop, refl, sym, ap, ◌∙◌, subst, append_assoc, append-nil}
 use Rattle.std.specs.Prelude.{Result, Ok, Err}
 use Rattle.std.proofs.lemmas.List.{take-append-drop}
 use Rattle.rule_file.specs.declared.rules.Rules.{Rules}
 use Rattle.series_csv.specs.Stays.{FilesHaveOneAnswer}
 use Rattle.online_repair.specs.Feeds.{Answers}
-use Rattle.online_repair.specs.Output.{IsOutput, Output, output}
+use Rattle.online_repair.specs.Output.{IsOutput, Output}
 use Rattle.online_repair.specs.StandsFor.{CanGoOn, GoesOn}
 use Rattle.online_repair.specs.Streams.{Feeds, FeedsSome}
 use Rattle.online_repair.specs.declared.fault.OnlineFault.{OnlineFault}

@@ -1,20 +1,18 @@
 -- Rows that are looked at for a window.
-use Rattle.std.proofs.Common.{◌≡◌, ℕ, zero, suc, ◌+◌, ◌<◌, ◌≤◌, ◌⊎◌, inl, inr, Bool, true, false, ℤ, pos, ◌-ℤ◌, ◌≤ℤ◌, ◌<ℤ◌, List, [], ◌∷◌, ◌++◌, length, take, drop, FitsSigned, to_z, of_z, refl, sym, ap, ◌∙◌, subst, arith, append_assoc, append-nil, add-one}
-use Rattle.std.specs.Prelude.{All, Option, Some, None, slice_get, unsigned_abs}
+use Rattle.std.proofs.Common.{◌≡◌, ℕ, zero, suc, ◌+◌, ◌<◌, ◌≤◌, true, false, ℤ, ◌-ℤ◌, ◌≤ℤ◌, ◌<ℤ◌, List, [], ◌∷◌, ◌++◌, length, take, drop, FitsSigned, to_z, of_z, refl, sym, ap, ◌∙◌, subst, arith}
+use Rattle.std.specs.Prelude.{Option, Some, None, slice_get}
 use Rattle.std.specs.Int.{w64}
 use Rattle.std.specs.List.{AllByRecursion}
 use Rattle.std.proofs.lemmas.Int.{ints, by_lt_z, to_z-of_z}
 use Rattle.std.proofs.lemmas.List.{take-append-drop, drop_all}
-use Rattle.std.proofs.lemmas.List.Elements.{All-from_recursion}
-use Rattle.words.proofs.Lists.{all_append, all_of_append, all_push, all_weaker}
+use Rattle.words.proofs.Lists.{all_of_append, all_push, all_weaker}
 use Rattle.rule_file.specs.Limits.{IsUnits}
 use Rattle.series_rows.specs.Row.{RowView}
 use Rattle.order_window.specs.declared.key.Key.{Key}
-use Rattle.order_window.specs.Window.{IsAfter}
 use Rattle.online_repair.specs.Rows.{keys_in, reading_in, with_key}
 use Rattle.online_values.specs.Sensor.{SensorView}
 use Rattle.online_repair.specs.declared.track.Track.{Track}
-use Rattle.online_repair.specs.Tracks.{AreHeld, Fits, IsBeyond, IsLike, IsLooking, IsNear, RisesFrom}
+use Rattle.online_repair.specs.Tracks.{Fits, IsBeyond, IsLike, IsLooking, IsNear, RisesFrom}
 
 -- ---- a row at its place
 

@@ -1,13 +1,12 @@
 -- What the tracks have seen stays while rows are repaired.
-use Rattle.std.proofs.Common.{◌≡◌, ℕ, zero, suc, ℤ, List, [], ◌∷◌, map, set, refl, sym, ap, ◌∙◌, subst}
+use Rattle.std.proofs.Common.{◌≡◌, ℕ, zero, suc, ℤ, List, [], ◌∷◌, map, set, refl, sym, ap, ◌∙◌}
 use Rattle.std.specs.Prelude.{Option, Some, None, slice_get}
 use Rattle.series_rows.specs.Row.{RowView}
 use Rattle.series_rows.specs.declared.cell.RowReading.{RowReading}
 use Rattle.order_window.specs.declared.key.Key.{Key}
-use Rattle.online_repair.specs.Rows.{keys_in}
-use Rattle.online_repair.specs.Sensors.{HaveSeen, Repairs, RepairsOf, RepairsRow, key_of, latest, passed, place_in}
+use Rattle.online_repair.specs.Sensors.{HaveSeen, Repairs, RepairsOf, RepairsRow, key_of, passed, place_in}
 use Rattle.online_repair.specs.declared.track.Track.{Track}
-use Rattle.online_repair.proofs.Columns.{IsChanged, changed}
+use Rattle.online_repair.proofs.Columns.{changed}
 use Rattle.online_repair.proofs.Rules.{no_track, place_passed, same_track}
 
 abbrev marks : List Track → List (Option ℤ)

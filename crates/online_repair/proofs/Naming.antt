@@ -1,9 +1,9 @@
 -- The first rule that the online method does not repair by.
 use Rattle.std.proofs.Common.{◌≡◌, ℕ, zero, suc, ◌+◌, ◌<◌, ◌||◌, Bool, true, false, cond, List, [], ◌∷◌, ◌++◌, length, map, get_or, take, drop, refl, sym, ap, ◌∙◌, subst, arith, drop-cons, add-one}
-use Rattle.std.specs.Prelude.{Option, Some, None, bytes_eq}
+use Rattle.std.specs.Prelude.{Some, None, bytes_eq}
 use Rattle.std.specs.List.{list_any}
 use Rattle.rule_file.specs.Count.{count_of}
-use Rattle.rule_file.specs.Numbers.{Rule, speed, swing, drift, range, trust, weight, between, rules_in_order}
+use Rattle.rule_file.specs.Numbers.{Rule, speed, swing, drift, range, trust, weight, between}
 use Rattle.rule_file.specs.declared.rules.SpeedRule.{SpeedRule}
 use Rattle.rule_file.specs.declared.rules.SwingRule.{SwingRule}
 use Rattle.rule_file.specs.declared.rules.DriftRule.{DriftRule}

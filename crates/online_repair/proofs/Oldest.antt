@@ -1,18 +1,16 @@
 -- The oldest row leaves those that are held, and is written.
-use Rattle.std.proofs.Common.{◌≡◌, ℕ, suc, ◌+◌, ◌≤◌, List, [], ◌∷◌, length, drop, refl, sym, ap, ◌∙◌, subst, arith}
-use Rattle.std.specs.Prelude.{Option, Some, None, Result, Ok, Err, slice_get}
+use Rattle.std.proofs.Common.{◌≡◌, ℕ, List, [], ◌∷◌, length, drop, sym, ap, ◌∙◌, subst, arith}
+use Rattle.std.specs.Prelude.{Some, None, Result, Ok, Err, slice_get}
 use Rattle.circular_buffer.specs.Buffer.{Buffer, buffer}
 use Rattle.rule_file.specs.declared.rules.Rules.{Rules}
 use Rattle.series_rows.specs.Header.{HeaderView}
 use Rattle.series_rows.specs.Row.{RowView}
-use Rattle.series_rows.specs.declared.limits.TheConstants.{MOST_ENDLESS_ROWS}
-use Rattle.online_repair.specs.Engines.{AreRows, IsSame, IsTooLarge, IsWritten, Leaves, Stands, WritesOldest, WritesRow}
+use Rattle.online_repair.specs.Engines.{AreRows, IsTooLarge, IsWritten, Leaves, Stands, WritesOldest, WritesRow}
 use Rattle.online_repair.specs.Sensors.{HaveSeen}
 use Rattle.online_repair.specs.Standing.{AreStanding}
 use Rattle.online_repair.specs.declared.engine.Engine.{Engine}
 use Rattle.online_repair.specs.declared.track.Track.{Track}
 use Rattle.online_repair.specs.declared.fault.OnlineFault.{OnlineFault}
-use Rattle.online_repair.specs.declared.fault.OnlineFault.TheVariants.{Memory}
 
 none_some : (row : RowView) → Some row ≡ None → ⊥
 none_some row e = cc

@@ -1,5 +1,5 @@
 -- The output by the definition, as rows are accepted one after the other.
-use Rattle.std.proofs.Common.{◌≡◌, ℕ, zero, suc, ◌+◌, Bool, true, false, cond, ℤ, List, [], ◌∷◌, ◌++◌, length, reverse, refl, sym, ap, ◌∙◌, subst, append_assoc, append-nil}
+use Rattle.std.proofs.Common.{◌≡◌, ℕ, suc, ◌+◌, Bool, false, cond, ℤ, List, [], ◌∷◌, ◌++◌, length, reverse, refl, sym, ap, ◌∙◌, append_assoc, append-nil}
 use Rattle.std.specs.Prelude.{Option, Some, None, option_map}
 use Rattle.std.specs.Option.{option_or}
 use Rattle.rule_file.specs.declared.rules.Rules.{Rules}
@@ -9,7 +9,7 @@ use Rattle.series_rows.specs.Texts.{header_text}
 use Rattle.series_rows.specs.declared.cell.RowReading.{RowReading}
 use Rattle.online_repair.specs.Accepted.{Accepted, accept, greatest_window, held, refusal, unless_refused}
 use Rattle.online_repair.specs.Keeping.{Keeps}
-use Rattle.online_repair.specs.Output.{Output, leaving, output_of, texts, too_large}
+use Rattle.online_repair.specs.Output.{leaving, output_of, texts, too_large}
 use Rattle.online_repair.specs.Shown.{AreWaiting}
 use Rattle.online_repair.specs.Storing.{onto}
 use Rattle.online_repair.specs.declared.engine.Engine.{Engine}

@@ -1,5 +1,5 @@
 -- What a stream answers, by what its reader and its engine answered.
-use Rattle.std.proofs.Common.{◌≡◌, true, ℕ, List, [], ◌∷◌, ◌++◌, take, refl, sym, ap, ◌∙◌, subst}
+use Rattle.std.proofs.Common.{◌≡◌, true, ℕ, List, [], take, refl, sym, subst}
 use Rattle.std.specs.Prelude.{IsOk, Option, Some, None, Result, Ok, Err}
 use Rattle.rule_file.specs.declared.rules.Rules.{Rules}
 use Rattle.series_rows.specs.declared.fault.TableFault.{TableFault}
@@ -15,7 +15,7 @@ use Rattle.series_csv.specs.declared.reader.RowReader.{RowReader}
 use Rattle.online_repair.specs.Faults.{fault_of}
 use Rattle.online_repair.specs.Feeds.{Answers}
 use Rattle.online_repair.specs.StandsFor.{CanGoOn, GoesOn}
-use Rattle.online_repair.specs.Streams.{CanTake, FeedsSome, HasReadLast, MayTake, ReadsLast, StopsAll, TakesEvent}
+use Rattle.online_repair.specs.Streams.{CanTake, FeedsSome, HasReadLast, MayTake, ReadsLast, TakesEvent}
 use Rattle.online_repair.specs.declared.engine.Engine.{Engine}
 use Rattle.online_repair.specs.declared.fault.OnlineFault.{OnlineFault}
 use Rattle.online_repair.specs.declared.stream.Stream.{Stream}

@@ -1,6 +1,6 @@
 -- What is answered to bytes of a piece, up to the end of a record.
-use Rattle.std.proofs.Common.{◌≡◌, ℕ, zero, suc, Bool, true, false, List, [], ◌∷◌, ◌++◌, length, take, drop, refl, sym, ap, ◌∙◌, subst, append_assoc, append-nil}
-use Rattle.std.specs.Prelude.{IsSome, Option, Some, None, Result, Ok, Err, option_map}
+use Rattle.std.proofs.Common.{◌≡◌, ℕ, Bool, true, false, List, [], ◌++◌, take, drop, refl, sym, ap, ◌∙◌, subst, append_assoc, append-nil}
+use Rattle.std.specs.Prelude.{Option, Some, None, Ok, Err, option_map}
 use Rattle.std.specs.Option.{option_or}
 use Rattle.std.proofs.lemmas.List.{take-append-drop}
 use Rattle.rule_file.specs.declared.rules.Rules.{Rules}
@@ -22,7 +22,7 @@ use Rattle.series_csv.specs.declared.reader.RowReader.{RowReader}
 use Rattle.online_repair.specs.Accepted.{Accepted, accept}
 use Rattle.online_repair.specs.Faults.{fault_by, fault_of}
 use Rattle.online_repair.specs.Feeds.{Answers, Appends, AppendsPart}
-use Rattle.online_repair.specs.Output.{IsOutput, Output, Reads, leaving, output, output_of, output_with}
+use Rattle.online_repair.specs.Output.{IsOutput, Output, Reads, output, output_of, output_with}
 use Rattle.online_repair.specs.StandsFor.{EngineKeeps, GoesOn}
 use Rattle.online_repair.specs.Streams.{FeedsSome, MayTake, StopsAll, StopsBy, TakesEvent}
 use Rattle.online_repair.specs.declared.engine.Engine.{Engine}
@@ -30,9 +30,9 @@ use Rattle.online_repair.specs.declared.fault.OnlineFault.{OnlineFault}
 use Rattle.online_repair.specs.declared.fault.OnlineFault.TheVariants.{Memory, Table}
 use Rattle.online_repair.specs.declared.stream.Stream.{Stream}
 use Rattle.online_repair.proofs.Grown.{Begins}
-use Rattle.online_repair.proofs.Joined.{appends_none}
+use Rattle.online_repair.proofs.Joined.{appends_none, appends_nothing, never_over}
 use Rattle.online_repair.proofs.Longer.{accept_skip, grown, kept_none_refused}
-use Rattle.online_repair.proofs.Outputs.{all_of, none_leaves}
+use Rattle.online_repair.proofs.Outputs.{none_leaves}
 use Rattle.online_repair.proofs.Taking.{IsStopped, kept_text, stopped_output}
 
 -- ---- a file has one output
@@ -154,6 +154,16 @@ fed_stops one stay rules bytes rest count event old new fault text now goes adds
             stays = λ out is_out. (later before out is is_out).0 other;
           },
       λ memory before out is is_out. (later before out is is_out).1 memory,
+      λ memory before is. record {
+        front = front;
+        rest = drop count rest;
+        piece_is = sym (take-append-drop count rest);
+        over = false;
+        over_is = never_over;
+        now = output rules false read;
+        is_output = record { read = read; reads = reads; is = refl };
+        part = (here before is).1 memory;
+      },
     )
 
 -- ---- the file is refused
@@ -238,4 +248,5 @@ fed_refused one stay rules bytes rest count fault old new text goes feeds =
           },
       λ memory before out is is_out.
           grown_output rules false (bytes ++ rest) goes.read is_out.read old.engine before out text goes.not_refused goes.engine is_out.reads ((stay rules Endless bytes rest goes.read goes.reads).so_far is_out.read is_out.reads) (first before is) is_out.is,
+      λ memory before is. appends_nothing rules false bytes rest text before is,
     )

@@ -1,10 +1,10 @@
 -- What a repair keeps and answers, by what its stream does.
-use Rattle.std.proofs.Common.{◌≡◌, ◌≢◌, ℕ, Bool, true, false, List, [], ◌++◌, refl, sym, ap, ◌∙◌, subst, append-nil}
-use Rattle.std.specs.Prelude.{IfErr, OnOk, Option, Some, None, Result, Ok, Err}
+use Rattle.std.proofs.Common.{◌≡◌, ℕ, Bool, true, false, List, [], ◌++◌, refl, sym, ap, ◌∙◌, subst, append-nil}
+use Rattle.std.specs.Prelude.{IfErr, OnOk, Result, Ok, Err}
 use Rattle.rule_file.specs.declared.rules.Rules.{Rules}
-use Rattle.online_repair.specs.Feeds.{Answers, Feeds}
+use Rattle.online_repair.specs.Feeds.{Feeds}
 use Rattle.online_repair.specs.Stages.{stage_after}
-use Rattle.online_repair.specs.StandsFor.{CanGoOn, GoesOn, HasEnded, HasRefused, IsKept, IsOver, OnlineView, StandsFor, StreamStands}
+use Rattle.online_repair.specs.StandsFor.{CanGoOn, HasEnded, HasRefused, IsKept, IsOver, OnlineView, StandsFor, StreamStands}
 use Rattle.online_repair.specs.Streams as stream
 use Rattle.online_repair.specs.declared.fault.OnlineFault.{OnlineFault}
 use Rattle.online_repair.specs.declared.online.Stage.{Stage}

@@ -1,15 +1,14 @@
 -- Rows are written one after the other.
-use Rattle.std.proofs.Common.{◌≡◌, ℕ, suc, ◌+◌, ◌<◌, ◌==◌, Bool, true, false, cond, ◌⊎◌, inl, inr, ℤ, ◌-ℤ◌, List, [], ◌∷◌, ◌++◌, length, refl, sym, ap, ◌∙◌, subst, arith, append-nil, eq-eqb}
+use Rattle.std.proofs.Common.{◌≡◌, ℕ, ◌<◌, ◌==◌, Bool, true, false, cond, inl, inr, ℤ, ◌-ℤ◌, List, [], ◌∷◌, ◌++◌, length, refl, sym, ap, ◌∙◌, subst, arith, append-nil, eq-eqb}
 use Rattle.std.proofs.lemmas.List.{nil_from_length}
 use Rattle.std.proofs.lemmas.Bool.{eqb-true}
 use Rattle.std.specs.Prelude.{Result, Ok, Err, int_lt}
 use Rattle.rule_file.specs.declared.rules.Rules.{Rules}
 use Rattle.series_rows.specs.Header.{HeaderView}
 use Rattle.series_rows.specs.Row.{RowView}
-use Rattle.online_repair.specs.Engines.{CanWrite, IsSame, IsStopped, IsThrough, IsWritten, Stands, WritesOldest, WritesRow, WritesRows, due_part, first_due, rest_part}
+use Rattle.online_repair.specs.Engines.{CanWrite, IsSame, IsStopped, IsWritten, Stands, WritesOldest, WritesRows, due_part, first_due, rest_part}
 use Rattle.online_repair.specs.declared.engine.Engine.{Engine}
 use Rattle.online_repair.specs.declared.fault.OnlineFault.{OnlineFault}
-use Rattle.online_repair.specs.declared.fault.OnlineFault.TheVariants.{Memory}
 
 -- What was written so far leads to what is written in the end, whichever it is; `due` and `rest` are the parts of the rows
 -- that are held.

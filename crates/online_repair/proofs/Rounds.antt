@@ -1,13 +1,10 @@
 -- Loops over the readings of a row and over the tracks.
-use Rattle.std.proofs.Common.{◌≡◌, ℕ, zero, suc, ◌+◌, ◌<◌, ◌≤◌, Bool, true, false, cond, ℤ, List, [], ◌∷◌, ◌++◌, length, map, get_or, set, take, drop, refl, sym, ap, ◌∙◌, subst, arith, drop-cons, add-one}
-use Rattle.std.specs.Prelude.{Option, Some, None, slice_get}
-use Rattle.std.specs.List.{AllByRecursion, AllZip, find}
-use Rattle.rule_file.specs.declared.rules.Rules.{Rules}
+use Rattle.std.proofs.Common.{◌≡◌, ℕ, zero, suc, ◌+◌, ◌<◌, ◌≤◌, Bool, false, cond, ℤ, List, [], ◌∷◌, ◌++◌, length, map, get_or, set, take, drop, refl, sym, ap, ◌∙◌, subst, arith, drop-cons, add-one}
+use Rattle.std.specs.Prelude.{Option, Some}
+use Rattle.std.specs.List.{AllZip, find}
 use Rattle.rule_file.specs.declared.rules.SpeedRule.{SpeedRule}
-use Rattle.series_rows.specs.Header.{HeaderView}
-use Rattle.series_rows.specs.Row.{RowView}
 use Rattle.series_rows.specs.declared.cell.RowReading.{RowReading}
-use Rattle.online_repair.specs.Sensors.{IsReady, IsTrackOf, RepairsRow, Repairs, all_seen, key_of, passed, place_in, seen_at}
+use Rattle.online_repair.specs.Sensors.{all_seen, passed, place_in, seen_at}
 use Rattle.online_repair.specs.declared.track.Track.{Track}
 
 -- ---- what was seen

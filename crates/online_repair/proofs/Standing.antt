@@ -1,10 +1,10 @@
 -- A row that has left those that are held: its readings are ready to be repaired.
-use Rattle.std.proofs.Common.{◌≡◌, ℕ, zero, suc, ◌+◌, ◌-◌, ◌<◌, ◌≤◌, ◌==◌, Bool, true, false, cond, ◌⊎◌, inl, inr, ℤ, ◌-ℤ◌, ◌≤ℤ◌, ◌<ℤ◌, List, [], ◌∷◌, length, map, take, drop, refl, sym, ap, ◌∙◌, subst, arith}
+use Rattle.std.proofs.Common.{◌≡◌, ℕ, zero, suc, ◌-◌, ◌<◌, ◌==◌, Bool, true, false, cond, ◌⊎◌, inl, inr, ℤ, ◌-ℤ◌, ◌≤ℤ◌, ◌<ℤ◌, List, [], ◌∷◌, length, map, take, refl, sym, ap, ◌∙◌, subst, arith}
 use Rattle.std.specs.Prelude.{Option, Some, None, slice_get}
-use Rattle.std.specs.List.{AllByRecursion, AllZip}
+use Rattle.std.specs.List.{AllByRecursion}
 use Rattle.std.proofs.lemmas.Bool.Decides.{nat_tests}
 use Rattle.std.proofs.lemmas.Int.{ints}
-use Rattle.words.proofs.Lists.{all_append, all_weaker}
+use Rattle.words.proofs.Lists.{all_weaker}
 use Rattle.rule_file.specs.declared.rules.Rules.{Rules}
 use Rattle.rule_file.specs.declared.rules.SpeedRule.{SpeedRule}
 use Rattle.rule_file.specs.Limits.{IsUnits}
@@ -15,11 +15,11 @@ use Rattle.order_window.specs.declared.key.Key.{Key}
 use Rattle.online_values.specs.Results.{Speed}
 use Rattle.online_values.specs.Sensor.{speed_of}
 use Rattle.online_repair.specs.Rows.{keys_in, reading_in, with_key}
-use Rattle.online_repair.specs.Sensors.{AreTracksOf, IsReady, IsReadyAt, IsReadyOf, IsTrackOf, key_of, passed, place_in}
+use Rattle.online_repair.specs.Sensors.{IsReady, IsReadyAt, IsReadyOf, IsTrackOf, key_of, passed, place_in}
 use Rattle.online_repair.specs.Standing.{AreAbout, AreStanding, FallsFrom, IsSound, IsStanding, IsWindowed, last_result}
-use Rattle.online_repair.specs.Tracks.{AreHeld, IsBeyond, IsEarlier, IsLeaving, IsNear, RisesFrom}
+use Rattle.online_repair.specs.Tracks.{AreHeld, IsEarlier, IsLeaving, IsNear, RisesFrom}
 use Rattle.online_repair.specs.declared.track.Track.{Track}
-use Rattle.online_repair.proofs.Rules.{HasRule, place_passed, rule_of_track, slice_get_passed, slice_get_passed_none}
+use Rattle.online_repair.proofs.Rules.{place_passed, rule_of_track, slice_get_passed, slice_get_passed_none}
 
 -- ---- the readings of a sound row
 

@@ -1,6 +1,6 @@
 -- The readings to which no whole step leads, by the tracks and by the rows that were accepted.
-use Rattle.std.proofs.Common.{◌≡◌, ℕ, zero, suc, ◌<◌, Bool, true, false, cond, ℤ, List, [], ◌∷◌, length, reverse, refl, sym, ap, ◌∙◌, subst, arith}
-use Rattle.std.specs.Prelude.{Option, Some, None, slice_get, option_map}
+use Rattle.std.proofs.Common.{◌≡◌, ℕ, zero, suc, ◌<◌, Bool, cond, ℤ, List, [], ◌∷◌, length, reverse, refl, sym, ap, ◌∙◌, arith}
+use Rattle.std.specs.Prelude.{Option, Some, None, slice_get}
 use Rattle.std.specs.List.{find}
 use Rattle.rule_file.specs.declared.rules.Rules.{Rules}
 use Rattle.rule_file.specs.declared.rules.SpeedRule.{SpeedRule}
@@ -14,7 +14,7 @@ use Rattle.online_repair.specs.Accepted.{lacks_step, lacks_step_by, without_step
 use Rattle.online_repair.specs.Rows.{keys_in, rule_in}
 use Rattle.online_repair.specs.Sensors.{AreTracksOf, HaveSeen, IsTrackOf, lacks_step_after, lacks_step_at, lacks_step_of, latest, place_in}
 use Rattle.online_repair.specs.declared.track.Track.{Track}
-use Rattle.online_repair.proofs.Rules.{HasRule, no_rule, place_inside, rule_at, rule_of_track}
+use Rattle.online_repair.proofs.Rules.{no_rule, place_inside, rule_at, rule_of_track}
 
 step_latest : (speed : Speed) (keys : List Key) (now : ℤ) → lacks_step_after speed (latest keys) now ≡ lacks_step speed keys now
 step_latest speed [] now = refl

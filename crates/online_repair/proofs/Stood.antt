@@ -1,22 +1,18 @@
 -- All tracks stand as they are to after the oldest row was repaired.
-use Rattle.std.proofs.Common.{◌≡◌, true, ℕ, zero, suc, ◌<◌, ◌≤◌, ℤ, List, [], ◌∷◌, length, map, set, refl, sym, ap, ◌∙◌, subst, arith}
-use Rattle.std.specs.Prelude.{Option, Some, None, slice_get, slice_set}
-use Rattle.std.specs.List.{AllByRecursion, AllZip}
+use Rattle.std.proofs.Common.{◌≡◌, ℕ, zero, suc, ℤ, List, [], ◌∷◌, length, map, set, refl, sym, ap, ◌∙◌, subst}
+use Rattle.std.specs.Prelude.{Option, Some, None, slice_get}
 use Rattle.rule_file.specs.declared.rules.Rules.{Rules}
 use Rattle.rule_file.specs.declared.rules.SpeedRule.{SpeedRule}
 use Rattle.series_rows.specs.Header.{HeaderView}
-use Rattle.series_rows.specs.Row.{RowView, Rise, columns}
-use Rattle.series_rows.specs.declared.cell.RowReading.{RowReading}
+use Rattle.series_rows.specs.Row.{RowView}
 use Rattle.order_window.specs.declared.key.Key.{Key}
-use Rattle.online_repair.specs.Output.{is_small}
 use Rattle.online_repair.specs.Rows.{reading_in}
 use Rattle.online_repair.specs.Sensors.{IsTrackOf, Repairs, RepairsOf, RepairsRow, passed, place_in}
 use Rattle.online_repair.specs.Standing.{AreStanding, IsSound, IsStanding}
 use Rattle.online_repair.specs.declared.track.Track.{Track}
-use Rattle.online_repair.proofs.After.{AreSmall, IsDone, done, key_at, no_reading, passed_stands, repaired_stands, rules_after, untouched}
+use Rattle.online_repair.proofs.After.{AreSmall, done, key_at, no_reading, passed_stands, repaired_stands, rules_after, untouched}
 use Rattle.online_repair.proofs.Columns.{changed}
-use Rattle.online_repair.proofs.Rules.{HasRule, no_track, place_passed, rule_of_track, same_rule, same_track, slice_get_passed, slice_get_passed_none, tracks_passed}
-use Rattle.online_repair.proofs.Values.{IsSameAt}
+use Rattle.online_repair.proofs.Rules.{no_track, place_passed, rule_of_track, same_rule, same_track, slice_get_passed, slice_get_passed_none, tracks_passed}
 
 get_set_same : (tracks : List Track) (i : ℕ) (track after : Track) → slice_get tracks i ≡ Some track → slice_get (set tracks i after) i ≡ Some after
 get_set_same [] i track after at = absurd (no_track track at)

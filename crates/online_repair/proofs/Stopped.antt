@@ -1,7 +1,7 @@
 -- Where a row that is due is refused, or memory runs out at it.
-use Rattle.std.proofs.Common.{◌≡◌, ℕ, zero, suc, ◌+◌, ◌||◌, ◌&&◌, not, Bool, true, false, cond, ◌⊎◌, inl, inr, ℤ, ◌-ℤ◌, ◌<ℤ◌, List, [], ◌∷◌, ◌++◌, length, map, reverse, refl, sym, ap, ◌∙◌, subst, arith, append_assoc, append-nil, length-append}
-use Rattle.std.specs.Prelude.{Option, Some, None, Result, Ok, Err, int_lt, option_map}
-use Rattle.std.specs.List.{AllByRecursion, find, list_all, list_any}
+use Rattle.std.proofs.Common.{◌≡◌, ℕ, suc, ◌+◌, ◌&&◌, not, Bool, true, false, cond, ◌⊎◌, inl, inr, ℤ, ◌-ℤ◌, ◌<ℤ◌, List, [], ◌∷◌, ◌++◌, length, map, reverse, refl, sym, ap, ◌∙◌, subst, arith, append_assoc, append-nil, length-append}
+use Rattle.std.specs.Prelude.{Option, Some, None, Result, Ok, Err, option_map}
+use Rattle.std.specs.List.{find, list_all}
 use Rattle.std.specs.Option.{option_or}
 use Rattle.std.proofs.lemmas.List.{length-reverse}
 use Rattle.words.proofs.Lists.{all_of_append, all_reverse}
@@ -11,7 +11,7 @@ use Rattle.series_rows.specs.Row.{RowView}
 use Rattle.series_rows.specs.Texts.{row_text_with}
 use Rattle.series_rows.specs.declared.cell.RowReading.{RowReading}
 use Rattle.online_repair.specs.Accepted.{greatest_window, is_ready}
-use Rattle.online_repair.specs.Engines.{AreRows, IsStopped, IsThrough, IsTooLarge, IsWritten, WritesRows, due_part, rest_part}
+use Rattle.online_repair.specs.Engines.{IsStopped, IsTooLarge, IsWritten, WritesRows, due_part, rest_part}
 use Rattle.online_repair.specs.Keeping.{IsNext, Keeps, Stops}
 use Rattle.online_repair.specs.Output.{is_small, leaving, texts, too_large}
 use Rattle.online_repair.specs.Rows.{repaired, repaired_row, rule_in}
@@ -23,7 +23,7 @@ use Rattle.online_repair.specs.declared.fault.OnlineFault.TheVariants.{LeavesRan
 use Rattle.online_repair.proofs.Round.{due_whole}
 use Rattle.online_repair.proofs.Steps.{find_alike}
 use Rattle.online_repair.proofs.Stored.{due_past, length_onto, past_onto}
-use Rattle.online_repair.proofs.Texts.{onto_is, onto_reverse, ready_append, ready_due, ready_more, reading_far, rows_far, small_append, small_far, text_append, text_shown, texts_ready}
+use Rattle.online_repair.proofs.Texts.{onto_reverse, ready_append, ready_due, ready_more, reading_far, rows_far, small_append, small_far, text_append, text_shown, texts_ready}
 
 -- ---- the row
 

@@ -1,24 +1,22 @@
 -- A row is held, after those that it makes ready were written.
-use Rattle.std.proofs.Common.{◌≡◌, ℕ, zero, suc, ◌+◌, ◌<◌, ◌≤◌, ◌^◌, ◌&&◌, Bool, true, false, cond, ◌⊎◌, inl, inr, ℤ, pos, ◌-ℤ◌, ◌≤ℤ◌, ◌<ℤ◌, List, [], ◌∷◌, ◌++◌, length, refl, sym, ap, ◌∙◌, subst, arith, append-nil, append_assoc, length-append}
-use Rattle.std.specs.Prelude.{Option, Some, None, Result, Ok, Err, int_le, int_lt, nat_le, slice_get}
+use Rattle.std.proofs.Common.{◌≡◌, ℕ, ◌+◌, ◌<◌, ◌≤◌, ◌^◌, ◌&&◌, Bool, true, false, cond, ◌⊎◌, inl, inr, ℤ, pos, ◌-ℤ◌, ◌≤ℤ◌, ◌<ℤ◌, List, [], ◌∷◌, ◌++◌, length, refl, sym, ap, ◌∙◌, subst, arith, append-nil, append_assoc, length-append}
+use Rattle.std.specs.Prelude.{Result, Ok, Err, int_le, int_lt, nat_le}
 use Rattle.std.specs.List.{AllByRecursion}
 use Rattle.std.proofs.lemmas.Bool.Decides.{nat_tests}
 use Rattle.std.proofs.lemmas.Int.{ints}
 use Rattle.circular_buffer.specs.Buffer.{Buffer}
 use Rattle.words.proofs.Lists.{all_push}
 use Rattle.rule_file.specs.declared.rules.Rules.{Rules}
-use Rattle.rule_file.specs.declared.rules.SpeedRule.{SpeedRule}
 use Rattle.series_rows.specs.Header.{HeaderView}
 use Rattle.series_rows.specs.Row.{RowView}
 use Rattle.series_rows.specs.Texts.{row_text_with}
-use Rattle.series_rows.specs.declared.limits.TheConstants.{MOST_ENDLESS_ROWS}
 use Rattle.online_values.proofs.Steps.{true_less}
 use Rattle.online_repair.specs.Accepted.{greatest_window}
 use Rattle.online_repair.specs.Engines.{AreRows, IsSame, IsStopped, IsWritten, KeepSeen, Stands, WritesRows, due_part, is_full_at, rest_part}
 use Rattle.online_repair.specs.Rows.{repaired_row}
 use Rattle.online_repair.specs.Sensors.{HaveSeen, all_seen}
 use Rattle.online_repair.specs.Shown.{AreSmallRows}
-use Rattle.online_repair.specs.Standing.{AreAbout, AreStanding, FallsFrom, IsSound, IsStanding}
+use Rattle.online_repair.specs.Standing.{AreStanding, FallsFrom, IsSound}
 use Rattle.online_repair.specs.Storing.{ArePast, Fall, IsStored, MayStore, onto, rows_text}
 use Rattle.online_repair.specs.Tracks.{RisesFrom}
 use Rattle.online_repair.specs.declared.engine.Engine.{Engine}

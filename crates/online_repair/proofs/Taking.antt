@@ -1,6 +1,6 @@
 -- What the header or a row does with the output.
-use Rattle.std.proofs.Common.{◌≡◌, ◌&&◌, ℕ, zero, suc, Bool, true, false, List, [], ◌∷◌, ◌++◌, refl, sym, ap, ◌∙◌, subst, append_assoc, append-nil}
-use Rattle.std.specs.Prelude.{IsSome, Option, Some, None, Result, Ok, Err, is_none, option_map}
+use Rattle.std.proofs.Common.{◌≡◌, ◌&&◌, ℕ, Bool, true, false, List, [], ◌∷◌, ◌++◌, refl, sym, ap, ◌∙◌, subst, append_assoc, append-nil}
+use Rattle.std.specs.Prelude.{Option, Some, None, Result, Ok, Err, is_none, option_map}
 use Rattle.std.specs.Option.{option_or}
 use Rattle.rule_file.specs.declared.rules.Rules.{Rules}
 use Rattle.series_rows.specs.Header.{HeaderView}
@@ -10,10 +10,9 @@ use Rattle.series_rows.specs.declared.fault.TableFault.{TableFault}
 use Rattle.series_csv.specs.Read.{Read}
 use Rattle.series_csv.specs.Feeds.{with_event}
 use Rattle.series_csv.specs.Stays.{Continues}
-use Rattle.series_csv.specs.declared.event.Event.{Event}
 use Rattle.series_csv.specs.declared.event.Event.TheVariants.{Header, Row}
 use Rattle.series_csv.proofs.OneRead.{same_read}
-use Rattle.online_repair.specs.Accepted.{Accepted, accept, greatest_window, held, refusal, unless_refused}
+use Rattle.online_repair.specs.Accepted.{Accepted, accept, refusal, unless_refused}
 use Rattle.online_repair.specs.Feeds.{Appends, AppendsPart}
 use Rattle.online_repair.specs.Keeping.{Accepts, AcceptsBy, Holds, IsNext, Keeps, Stops}
 use Rattle.online_repair.specs.Output.{Output, Reads, leaving, output, output_of, output_with, texts}
@@ -24,8 +23,8 @@ use Rattle.online_repair.specs.declared.engine.Engine.{Engine}
 use Rattle.online_repair.specs.declared.fault.OnlineFault.{OnlineFault}
 use Rattle.online_repair.specs.declared.fault.OnlineFault.TheVariants.{Memory, Table}
 use Rattle.online_repair.proofs.FromFile.{header_first, read_placed, row_next}
-use Rattle.online_repair.proofs.Grown.{Begins, Placed, leaving_grow, placed_front}
-use Rattle.online_repair.proofs.Longer.{GoesFurther, accept_skip, goes_further, text_longer}
+use Rattle.online_repair.proofs.Grown.{Placed, leaving_grow}
+use Rattle.online_repair.proofs.Longer.{accept_skip, goes_further, text_longer}
 use Rattle.online_repair.proofs.Outputs.{accept_push, all_of, none_leaves}
 
 -- ---- the header

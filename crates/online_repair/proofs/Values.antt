@@ -1,8 +1,7 @@
 -- The values of a row are those of the definition.
-use Rattle.std.proofs.Common.{◌≡◌, ℕ, zero, suc, ◌+◌, ◌-◌, ◌<◌, ◌≤◌, Bool, true, false, cond, ◌⊎◌, inl, inr, ℤ, List, [], ◌∷◌, length, map, refl, sym, ap, ◌∙◌, subst, arith}
+use Rattle.std.proofs.Common.{◌≡◌, ℕ, zero, suc, ◌<◌, ◌≤◌, ℤ, List, [], ◌∷◌, length, map, refl, sym, ap, ◌∙◌, subst, arith}
 use Rattle.std.specs.Prelude.{Option, Some, None, slice_get}
-use Rattle.std.specs.List.{AllByRecursion, AllZip}
-use Rattle.words.proofs.Lists.{all_weaker}
+use Rattle.std.specs.List.{AllByRecursion}
 use Rattle.rule_file.specs.declared.rules.Rules.{Rules}
 use Rattle.rule_file.specs.declared.rules.SpeedRule.{SpeedRule}
 use Rattle.series_rows.specs.Header.{HeaderView}
@@ -12,11 +11,11 @@ use Rattle.order_window.specs.declared.key.Key.{Key}
 use Rattle.online_values.specs.Results.{Speed, clamped_after, median_before, result, successors}
 use Rattle.online_values.specs.Sensor.{speed_of}
 use Rattle.online_repair.specs.Rows.{keys_in, reading_in, repaired, rule_in, with_key}
-use Rattle.online_repair.specs.Sensors.{AreTracksOf, IsTrackOf, Repairs, RepairsOf, RepairsRow, key_of, passed, place_in}
+use Rattle.online_repair.specs.Sensors.{IsTrackOf, Repairs, RepairsOf, RepairsRow, key_of, passed, place_in}
 use Rattle.online_repair.specs.Standing.{AreStanding, IsStanding, last_result}
 use Rattle.online_repair.specs.declared.track.Track.{Track}
 use Rattle.online_repair.proofs.Columns.{IsChanged, changed}
-use Rattle.online_repair.proofs.Rules.{HasRule, no_rule, place_inside, place_passed, rule_at, rule_of_track, slice_get_passed}
+use Rattle.online_repair.proofs.Rules.{no_rule, place_inside, place_passed, rule_at, rule_of_track, slice_get_passed}
 use Rattle.online_repair.proofs.Standing.{IsIn, later_columns}
 
 -- ---- a track that was not touched

@@ -1,9 +1,8 @@
 -- The rows that are held and the windows, while a repair stands for bytes.
-use Rattle.std.proofs.Common.{◌≡◌, ℕ, zero, suc, ◌+◌, ◌-◌, ◌≤◌, ◌<◌, ◌^◌, Bool, true, false, List, [], ◌∷◌, ◌++◌, length, reverse, take, drop, refl, sym, ap, ◌∙◌, subst, arith, append-nil, length-append}
+use Rattle.std.proofs.Common.{◌≡◌, ℕ, ◌-◌, ◌≤◌, Bool, true, false, List, [], ◌∷◌, ◌++◌, length, reverse, take, refl, sym, ap, ◌∙◌, subst, arith, append-nil, length-append}
 use Rattle.std.specs.Prelude.{Option, Some, None, min, option_map}
 use Rattle.std.proofs.lemmas.List.{reverse-reverse}
 use Rattle.rule_file.specs.declared.rules.Rules.{Rules}
-use Rattle.rule_file.specs.declared.rules.SpeedRule.{SpeedRule}
 use Rattle.series_rows.specs.Header.{HeaderView}
 use Rattle.series_rows.specs.Row.{RowView}
 use Rattle.series_rows.specs.declared.fault.TableFault.{TableFault}
@@ -17,12 +16,12 @@ use Rattle.online_values.specs.Sensor.{speed_of}
 use Rattle.online_repair.specs.Accepted.{Accepted}
 use Rattle.online_repair.specs.Feeds.{HasWindow, IsWindow, LacksWindow, rule_of_column, successors_of_last}
 use Rattle.online_repair.specs.Output.{IsOutput, Output, Reads, output, output_of, output_with}
-use Rattle.online_repair.specs.Rows.{keys_in, rule_in}
+use Rattle.online_repair.specs.Rows.{keys_in}
 use Rattle.online_repair.specs.Sensors.{IsTrackOf, IsWindowOf, place_in}
-use Rattle.online_repair.specs.Standing.{AreStanding, IsStanding, IsWindowed}
-use Rattle.online_repair.specs.StandsFor.{EngineEnded, EngineKeeps, GoesOn, IsOver, OnlineView, StandsFor, StreamStands, held_by}
+use Rattle.online_repair.specs.Standing.{AreStanding, IsWindowed}
+use Rattle.online_repair.specs.Held.{held_by, held_rows}
+use Rattle.online_repair.specs.StandsFor.{EngineEnded, EngineKeeps, OnlineView, StandsFor, StreamStands}
 use Rattle.online_repair.specs.declared.engine.Engine.{Engine}
-use Rattle.online_repair.specs.declared.fault.OnlineFault.{OnlineFault}
 use Rattle.online_repair.specs.declared.fault.OnlineFault.TheVariants.{Table}
 use Rattle.online_repair.specs.declared.stream.Stream.{Stream}
 use Rattle.online_repair.proofs.Outputs as outputs
@@ -76,6 +75,9 @@ pub held_is : FilesHaveOneAnswer → (rules : Rules) (ended : Bool) (bytes : Lis
 held_is law rules ended bytes out stream stands is =
     let kept = kept_of ended stream rules bytes stands in
     ap (λ (o : Output). o.held) (same_output law rules ended bytes kept.read out kept.reads is) ∙ held_read ended rules kept.read stream.engine kept.not_refused kept.kept
+
+pub held_rows_are : FilesHaveOneAnswer → (rules : Rules) (ended : Bool) (bytes : List ℕ) (out : Output) (online : OnlineView) → StandsFor online rules ended bytes → IsOutput rules ended bytes out → held_rows online ≡ out.held
+held_rows_are law rules ended bytes out online stands is = sym (held_is law rules ended bytes out online.stream stands.stream is)
 
 few_open : (rules : Rules) (header : Option HeaderView) (rows : List RowView) (engine : Option Engine) → EngineKeeps rules header rows engine → length (held_by engine) ≤ rules.format.hold
 few_open rules header rows None keeps = omega arith
@@ -146,8 +148,11 @@ window_seen ended rules read engine col window all held is =
     subst W (sym held) (record {
       rule = found.rule;
       names = ap (λ (h : Option HeaderView). rule_of_column rules h col) all.header_is ∙ rule_at rules all.header col is.place engine.tracks.items all.stands.of_rules is.place_is ∙ found.at;
-      keys = is.keys ∙ stands.keys_are ∙ window_by speed col (keys_in col all.before) is.track.next engine.held.items stands.windowed
+      keys = ap (λ (w : Window). w.keys) is.window_is ∙ stands.keys_are ∙ window_by speed col (keys_in col all.before) is.track.next engine.held.items stands.windowed
           ∙ ap (λ (rs : List RowView). successors_of_last speed (keys_in col rs) (keys_in col engine.held.items)) (sym (written_are read.rows all.before engine.held.items all.joined));
+      room = ap (λ (w : Window). w.room) is.window_is ∙ found.is.room;
+      rates = ap (λ (w : Window). w.rates) is.window_is ∙ ap (λ (s : Speed). s.rates) found.is.speed;
+      span = ap (λ (w : Window). w.span) is.window_is ∙ ap (λ (s : Speed). s.span) found.is.speed;
     })
 
 pub has_window : FilesHaveOneAnswer → (rules : Rules) (ended : Bool) (bytes : List ℕ) (col : ℕ) (stream : Stream) (engine : Engine) (window : Window) → StreamStands ended stream rules bytes → stream.engine ≡ Some engine → IsWindowOf col engine.tracks.items window → HasWindow rules ended bytes col window

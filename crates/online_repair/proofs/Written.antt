@@ -1,5 +1,5 @@
 -- The oldest row is written.
-use Rattle.std.proofs.Common.{◌≡◌, ℕ, suc, ◌+◌, ◌<◌, ◌≤◌, ℤ, ◌<ℤ◌, List, [], ◌∷◌, ◌++◌, length, map, refl, sym, ap, ◌∙◌, subst, arith, add-one}
+use Rattle.std.proofs.Common.{◌≡◌, ℕ, suc, ◌+◌, ◌≤◌, ℤ, List, [], ◌∷◌, ◌++◌, length, map, sym, ap, ◌∙◌, subst, arith, add-one}
 use Rattle.circular_buffer.specs.Buffer.{Buffer}
 use Rattle.series_rows.specs.declared.limits.TheConstants.{MOST_ENDLESS_ROWS}
 use Rattle.rule_file.specs.declared.rules.Rules.{Rules}
@@ -7,7 +7,7 @@ use Rattle.series_rows.specs.Header.{HeaderView}
 use Rattle.series_rows.specs.Row.{RowView}
 use Rattle.series_rows.specs.Texts.{row_text_with}
 use Rattle.series_rows.specs.declared.cell.RowReading.{RowReading}
-use Rattle.online_repair.specs.Engines.{AreRows, IsSame, IsWritten, Leaves, Stands}
+use Rattle.online_repair.specs.Engines.{AreRows, IsWritten, Leaves}
 use Rattle.online_repair.specs.Rows.{repaired_row}
 use Rattle.online_repair.specs.Sensors.{RepairsRow, passed}
 use Rattle.online_repair.specs.Standing.{AreAbout, AreStanding}

@@ -1,5 +1,5 @@
 -- To be believed: which rows are accepted, and which of them are held.
-use Rattle.std.specs.Prelude.{ℕ, suc, ◌&&◌, nat_le, Bool, true, false, ℤ, pos, ◌-ℤ◌, int_le, int_lt, List, [], ◌∷◌, ◌++◌, length, reverse, Option, Some, None, option_map, slice_get, if◌then◌else◌}
+use Rattle.std.specs.Prelude.{ℕ, suc, ◌&&◌, nat_le, Bool, false, ℤ, pos, ◌-ℤ◌, int_le, int_lt, List, [], ◌∷◌, ◌++◌, length, reverse, Option, Some, None, option_map, if◌then◌else◌}
 use Rattle.std.specs.Int.{int_max}
 use Rattle.std.specs.List.{find, list_any}
 use Rattle.rule_file.specs.declared.rules.Rules.{Rules}

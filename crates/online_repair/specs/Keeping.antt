@@ -6,7 +6,7 @@ use Rattle.series_rows.specs.Header.{HeaderView}
 use Rattle.series_rows.specs.Row.{RowView}
 use Rattle.series_rows.specs.declared.limits.TheConstants.{MOST_ENDLESS_ROWS}
 use Rattle.online_repair.specs.Accepted.{greatest_window, held, refusal}
-use Rattle.online_repair.specs.Engines.{Stands, WritesRows, due_part, rest_part}
+use Rattle.online_repair.specs.Engines.{Stands, due_part, rest_part}
 use Rattle.online_repair.specs.Sensors.{HaveSeen}
 use Rattle.online_repair.specs.Output.{leaving, texts}
 use Rattle.online_repair.specs.Shown.{AreShown}

@@ -1,6 +1,6 @@
 -- To be believed: what the repaired readings of the rows that are accepted are good for; and that the output of a file is one
 -- only, and a refusal stays.
-use Rattle.std.specs.Prelude.{◌≡◌, ℕ, Bool, false, ℤ, ◌-ℤ◌, ◌≤ℤ◌, List, [], ◌∷◌, ◌++◌, reverse, Option, Some, None, option_map}
+use Rattle.std.specs.Prelude.{◌≡◌, ℕ, Bool, false, ℤ, ◌-ℤ◌, ◌≤ℤ◌, List, [], ◌∷◌, ◌++◌, reverse, Some, option_map}
 use Rattle.rule_file.specs.declared.rules.Rules.{Rules}
 use Rattle.rule_file.specs.declared.rules.SpeedRule.{SpeedRule}
 use Rattle.series_rows.specs.Header.{HeaderView}

@@ -2,6 +2,7 @@ pub mod Accepted
 pub mod Engines
 pub mod Faults
 pub mod Feeds
+pub mod Held
 pub mod Keeping
 pub mod Laws
 pub mod Named

@@ -1,16 +1,15 @@
 -- For proofs: the repairs of all columns, between the rows that were written and those that are held.
-use Rattle.std.specs.Prelude.{◌≡◌, ℕ, ◌^◌, ◌<◌, ◌≤◌, ℤ, ◌-◌, ◌-ℤ◌, ◌<ℤ◌, List, [], ◌∷◌, ◌++◌, length, map, reverse, take, drop, slice_get, slice_index_or, slice_set, int_le, int_lt, ◌&&◌, Bool, true, false, Option, Some, None}
-use Rattle.std.specs.List.{AllByRecursion, AllZip, position}
+use Rattle.std.specs.Prelude.{◌≡◌, ℕ, ℤ, ◌-◌, ◌-ℤ◌, ◌<ℤ◌, List, [], ◌∷◌, map, slice_get, slice_set, int_le, int_lt, ◌&&◌, Bool, false, Option, Some, None}
+use Rattle.std.specs.List.{AllZip, position}
 use Rattle.rule_file.specs.declared.rules.Rules.{Rules}
 use Rattle.rule_file.specs.declared.rules.SpeedRule.{SpeedRule}
-use Rattle.rule_file.specs.Limits.{IsUnits}
 use Rattle.series_rows.specs.Header.{HeaderView, column_of}
 use Rattle.series_rows.specs.Row.{RowView}
 use Rattle.series_rows.specs.declared.cell.RowReading.{RowReading}
 use Rattle.order_window.specs.Window.{Window}
 use Rattle.order_window.specs.declared.key.Key.{Key}
 use Rattle.online_values.specs.Results.{Speed, clamped_after, greatest_step, least_step, median_before, successors}
-use Rattle.online_values.specs.Sensor.{speed_of}
+use Rattle.online_values.specs.Sensor.{speed_of, window_in}
 use Rattle.online_repair.specs.Rows.{is_column, keys_in}
 use Rattle.online_repair.specs.Tracks.{AreHeld, IsLeaving, IsLike, IsLooked, last_after}
 use Rattle.online_repair.specs.declared.track.Track.{Track}
@@ -137,4 +136,4 @@ pub record IsWindowOf (col : ℕ) (tracks : List Track) (window : Window) : Type
   pub track : Track
   pub place_is : place_in col tracks ≡ Some place
   pub track_is : slice_get tracks place ≡ Some track
-  pub keys : window.keys ≡ track.sensor.keys
+  pub window_is : window ≡ window_in track.sensor

@@ -33,11 +33,6 @@ abbrev pub stage_of : Bool → Stage
 stage_of true = Ended
 stage_of false = Open
 
--- the rows that an engine holds, if there is one
-abbrev pub held_by : Option Engine → List RowView
-held_by None = []
-held_by (Some engine) = engine.held.items
-
 -- While the file goes on, the engine keeps all rows, once the header was read; and none of them is refused.
 abbrev pub EngineKeeps : Rules → Option HeaderView → List RowView → Option Engine → Type 0
 EngineKeeps rules None rows None = rows ≡ []

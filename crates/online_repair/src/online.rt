@@ -47,6 +47,7 @@ impl<'a> Online<'a> {
     ghost use Rattle.online_repair.specs.Output.{Output, IsOutput};
     ghost use Rattle.online_repair.specs.StandsFor.{StandsFor, HasRefused, HasEnded};
     ghost use Rattle.online_repair.specs.Feeds.{Feeds, HasWindow, LacksWindow};
+    ghost use Rattle.online_repair.specs.Held.{held_rows};
     ghost use Rattle.online_repair.specs.declared.fault.OnlineFault.{OnlineFault};
     ghost use Rattle.order_window.specs.declared.window.OrderWindow.{OrderWindow};
 
@@ -75,7 +76,7 @@ impl<'a> Online<'a> {
     /// # Errors
     ///
     /// The first refusal of the file, which is kept for ever; `out` then has the text before it. After want of memory,
-    /// which may come at any byte, `out` has a part of the text, from its beginning on.
+    /// which may come at any byte, `out` has a part of the text for some of the first bytes, from its beginning on.
     #[tactic(none)]
     pub fn feed(&mut self, bytes: &[u8], out: &mut Vec<u8>) -> Result<(), OnlineFault>
         requires { ¬ HasEnded self.old }
@@ -116,10 +117,13 @@ impl<'a> Online<'a> {
         ended
     }
 
-    /// How many rows are held: those that are accepted and not ready. It takes no memory.
+    /// How many rows are held: those that are accepted and not ready. These rows are in the ring of the repair, and no
+    /// others. It takes no memory.
     pub fn held(&self) -> u32
         ensures held { (rules : Rules) (ended : Bool) (bytes : List ℕ) (out : Output)
             → StandsFor self.now rules ended bytes → IsOutput rules ended bytes out → result ≡ length out.held }
+        ensures rows { (rules : Rules) (ended : Bool) (bytes : List ℕ) (out : Output)
+            → StandsFor self.now rules ended bytes → IsOutput rules ended bytes out → held_rows self.now ≡ out.held }
         ensures most { (rules : Rules) (ended : Bool) (bytes : List ℕ) → StandsFor self.now rules ended bytes → result ≤ rules.format.hold }
     {
         // The law that what was read is one thing only; it does nothing.
@@ -128,8 +132,9 @@ impl<'a> Online<'a> {
     }
 
     /// The window of the sensor in a column, counted from 1: its keys are the successors of the sensor's last reading in the
-    /// rows that are ready. `None` exactly where the header is not read, or no rule names a sensor in this column. It takes
-    /// no memory.
+    /// rows that are ready, its rates, decimals and span those of the sensor's rule, and it has room for as many keys as rows
+    /// may be held. `None` exactly where the header is not read, or no rule names a sensor in this column. It takes no
+    /// memory.
     #[tactic(none)]
     pub fn window(&self, col: u32) -> Option<&OrderWindow>
         ensures { (rules : Rules) (ended : Bool) (bytes : List ℕ) → StandsFor self.now rules ended bytes

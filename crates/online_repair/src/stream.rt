@@ -25,7 +25,8 @@ pub(crate) struct Stream<'a> {
 impl<'a> Stream<'a> {
     ghost use Rattle.std.specs.Prelude.{◌≡◌, ℕ, ◌<◌, ◌≤◌, List, [], length, IfOk};
     ghost use Rattle.rule_file.specs.declared.rules.Rules.{Rules};
-    ghost use Rattle.online_repair.specs.StandsFor.{CanGoOn, GoesOn, held_by};
+    ghost use Rattle.online_repair.specs.Held.{held_by};
+    ghost use Rattle.online_repair.specs.StandsFor.{CanGoOn, GoesOn};
     ghost use Rattle.online_repair.specs.Streams.{Feeds, FeedsSome, Finishes, ReadsLast};
 
     /// Nothing was read.

@@ -26,6 +26,10 @@ HasStep speed before now = (now -ℤ before) ≤ℤ speed.span → least_step sp
 abbrev pub sensor_view : Window → Option Key → SensorView
 sensor_view window last = record { speed = record { rates = window.rates; span = window.span }; keys = window.keys; room = window.room; last = last }
 
+-- the window of a sensor: it has the keys and the room of the repair, and the rates and the span of its rule
+abbrev pub window_in : SensorView → Window
+window_in sensor = record { keys = sensor.keys; room = sensor.room; rates = sensor.speed.rates; span = sensor.speed.span }
+
 -- For proofs: what a repair keeps.
 pub record KeepsSensor (window : Window) (steps : RateLimits) (span : ℤ) (last : Option Key) : Type 0 where
   pub steps_are : steps ≡ window.rates

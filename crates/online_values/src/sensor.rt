@@ -36,7 +36,7 @@ impl SensorRepair {
     ghost use Rattle.order_window.specs.declared.key.Key.{Key};
     ghost use Rattle.order_window.specs.Window.{AreApart, IsAfter};
     ghost use Rattle.online_values.specs.Results.{clamped_after, median_before};
-    ghost use Rattle.online_values.specs.Sensor.{HasStep, speed_of};
+    ghost use Rattle.online_values.specs.Sensor.{HasStep, speed_of, window_in};
 
     /// No reading was repaired, and no key is in the window, which has room for so many; in units of 10^-d. Fails only
     /// where memory runs out.
@@ -60,7 +60,7 @@ impl SensorRepair {
 
     /// The window.
     pub fn window(&self) -> &OrderWindow
-        ensures { result.now.keys ≡ self.now.keys }
+        ensures { result.now ≡ window_in self.now }
     {
         &self.window
     }

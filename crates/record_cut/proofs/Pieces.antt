@@ -70,3 +70,18 @@ feeds-on old mid new sep before bytes rest count more answer e k some stands fir
     let P : List ℕ → Type 0 = λ piece. Feeds sep before piece answer new in
     let pieces : take (count + more) bytes ≡ take count bytes ++ take more rest = take-add count more bytes ∙ ap (λ t. take count bytes ++ take more t) (sym e) in
     subst P (sym pieces) (feeds-then sep before (take count bytes) (take more rest) answer mid new (stands-no_fault old sep before stands) (omega (arith, length-take-le more rest k)) first second)
+
+-- the same where the piece ends and refuses nothing, and may be empty
+
+goes-more : (old mid new : Cutter) (sep : ℕ) (before piece more : List ℕ) → StandsFor old sep before → GoesOn sep before piece [] mid → GoesOn sep (before ++ piece) more [] new → GoesOn sep before (piece ++ more) [] new
+goes-more old mid new sep before piece more stands first second = goes-then sep before piece more [] new (same-so_far sep before piece mid (stands-no_fault old sep before stands) first) second
+
+pub goes-part : (old mid new : Cutter) (sep : ℕ) (before bytes piece : List ℕ) (count more : ℕ) → piece ≡ take more (drop count bytes) → StandsFor old sep before → GoesOn sep before (take count bytes) [] mid → GoesOn sep (before ++ take count bytes) piece [] new → GoesOn sep before (take (count + more) bytes) [] new
+goes-part old mid new sep before bytes piece count more e stands first second =
+    let P : List ℕ → Type 0 = λ text. GoesOn sep before text [] new in
+    subst P (ap (λ p. take count bytes ++ p) e ∙ sym (take-add count more bytes)) (goes-more old mid new sep before (take count bytes) piece stands first second)
+
+pub goes-byte : (old mid new : Cutter) (sep : ℕ) (before bytes : List ℕ) (count : ℕ) → count < length bytes → StandsFor old sep before → GoesOn sep before (take count bytes) [] mid → GoesOn sep (before ++ take count bytes) (get_or bytes count 0 ∷ []) [] new → GoesOn sep before (take (count + 1) bytes) [] new
+goes-byte old mid new sep before bytes count h stands first second =
+    let P : List ℕ → Type 0 = λ text. GoesOn sep before text [] new in
+    subst P (sym (take_more bytes count 0 h)) (goes-more old mid new sep before (take count bytes) (get_or bytes count 0 ∷ []) stands first second)

@@ -1,6 +1,6 @@
 -- What a cutter stands for after some bytes.
-use Rattle.std.proofs.Common.{◌≡◌, ℕ, suc, ◌+◌, ◌-◌, ◌<◌, ◌≤◌, IsTrue, List, [], ◌∷◌, ◌++◌, length, take, None, Ok, Err, refl, sym, ap, ◌∙◌, subst, arith, append_assoc, length-append}
-use Rattle.std.proofs.lemmas.List.{append-nil, length-take, length-take-le, take-take}
+use Rattle.std.proofs.Common.{◌≡◌, ℕ, suc, ◌+◌, ◌-◌, ◌<◌, ◌≤◌, IsTrue, List, [], ◌∷◌, ◌++◌, length, None, Ok, Err, refl, sym, ap, ◌∙◌, subst, arith, append_assoc, length-append}
+use Rattle.std.proofs.lemmas.List.{append-nil}
 use Rattle.words.specs.Separators.{is_separator}
 use Rattle.record_cut.specs.Drafted.{Drafted}
 use Rattle.record_cut.specs.Record.{Whole, Bad}
@@ -139,7 +139,7 @@ fed-to old new byte bytes place next move tells moves is same phase size stands 
     let R : Phase → Type 0 = λ p. Resumes old.sep old.phase old.draft old.count (byte ∷ []) [] p new.draft new.count in
     goes-on old new bytes (byte ∷ []) [] stands same (subst F (sym phase) goes.fits) (subst R (sym phase) (to-step old.sep byte old.count new.count old.phase place next old.draft new.draft opens goes size))
 
-run-step : (sep all count size : ℕ) (place next : Place) (draft new : Drafted) (run more : List ℕ) → continued sep place draft (run ++ more) ≡ continued sep next new more → size ≡ count + length run → resumed sep (Inside place) draft count all (run ++ more) ≡ resumed sep (Inside next) new size all more
+pub run-step : (sep all count size : ℕ) (place next : Place) (draft new : Drafted) (run more : List ℕ) → continued sep place draft (run ++ more) ≡ continued sep next new more → size ≡ count + length run → resumed sep (Inside place) draft count all (run ++ more) ≡ resumed sep (Inside next) new size all more
 run-step sep all count size place next draft new run more goes e =
     let long : count + length (run ++ more) ≡ size + length more = omega (arith, length-append run more) in
     ap (by_record (records_from sep all) all (count + length (run ++ more))) goes ∙ ap (λ n. by_record (records_from sep all) all n (continued sep next new more)) long
@@ -217,14 +217,3 @@ pub fed-memory : (sep : ℕ) (bytes piece : List ℕ) (fault : CutFault) (new : 
 fed-memory sep bytes piece fault new e =
     let P : CutFault → Type 0 = λ f. Feeds sep bytes piece (Err f) new in
     subst P (sym e) tt
-
--- a run at the front of a front part of a slice
-pub fed-part : (old new : Cutter) (bytes before : List ℕ) (len p q : ℕ) (place next : Place) → RunsTo old.sep place (take len (take q bytes)) next → new.draft.field ≡ old.draft.field ++ take p (take q bytes) → p ≡ len → len ≤ length (take q bytes) → old.phase ≡ Inside place → new.draft.fields ≡ old.draft.fields → new.sep ≡ old.sep → new.phase ≡ Inside next → new.count ≡ old.count + len → StandsFor old old.sep before → GoesOn old.sep before (take len bytes) [] new
-fed-part old new bytes before len p q place next runs f e h at fields same phase size stands =
-    let within : len ≤ q = omega (arith, h, length-take q bytes) in
-    let part : take len (take q bytes) ≡ take len bytes = take-take len q bytes within in
-    let P : List ℕ → Type 0 = λ run. RunsTo old.sep place run next in
-    let long : length (take len bytes) ≡ len = length-take-le len bytes (omega (arith, h, length-take q bytes)) in
-    let added : new.draft.field ≡ old.draft.field ++ take len bytes = f ∙ ap (λ n. old.draft.field ++ take n (take q bytes)) e ∙ ap (λ run. old.draft.field ++ run) part in
-    let counted : new.count ≡ old.count + length (take len bytes) = size ∙ ap (λ n. old.count + n) (sym long) in
-    fed-run old new (take len bytes) before place next at (subst P part runs) fields added same phase counted stands

@@ -1,5 +1,5 @@
 -- For proofs: what a byte does to a record that is being read.
-use Rattle.std.specs.Prelude.{◌≡◌, ℕ, suc, ◌<◌, List, [], ◌∷◌, ◌++◌, Result, Ok, Err}
+use Rattle.std.specs.Prelude.{◌≡◌, ℕ, suc, Bool, true, false, List, [], ◌∷◌, ◌++◌, Result, Ok, Err}
 use Rattle.record_cut.specs.Bytes.{carriage_return}
 use Rattle.record_cut.specs.Record.{Whole, Bad, Fields, OpenField, CrAfterQuote, Nothing as NoRecord}
 use Rattle.record_cut.specs.Records.{Rest, only, records_from}
@@ -8,10 +8,9 @@ use Rattle.record_cut.specs.Resumed.{continued, resumed, FitsPlace, Fits}
 use Rattle.record_cut.specs.declared.fault.CutFault.{CutFault}
 use Rattle.record_cut.specs.declared.fault.CutFault.TheVariants.{BadQuote, RecordTooLong, OpenQuote, Memory}
 use Rattle.record_cut.specs.declared.phase.Place.{Place}
-use Rattle.record_cut.specs.declared.phase.Place.TheVariants.{Field as AtField}
+use Rattle.record_cut.specs.declared.phase.Place.TheVariants.{Field as AtField, Plain, PlainCr, Quoted, QuoteInQuoted, ClosedCr}
 use Rattle.record_cut.specs.declared.phase.Phase.{Phase}
-use Rattle.record_cut.specs.declared.phase.Phase.TheVariants.{Inside}
-use Rattle.record_cut.specs.declared.phase.Run.{Run}
+use Rattle.record_cut.specs.declared.phase.Phase.TheVariants.{Input, MarkOne, MarkTwo, Record, RecordCr, Inside, Refused}
 use Rattle.record_cut.specs.declared.phase.Move.{Move}
 use Rattle.record_cut.specs.declared.phase.Move.TheVariants.{To, EndRecord}
 use Rattle.record_cut.specs.declared.phase.Opening.{Opening}
@@ -50,11 +49,30 @@ Moves sep place old byte (Err RecordTooLong) new = ⊥
 Moves sep place old byte (Err OpenQuote) new = ⊥
 Moves sep place old byte (Err Memory) new = Unit {0}
 
--- a run of so many bytes, at least one, after which the next byte stands at this place
-pub record IsRun (len : ℕ) (next : Place) (run : Run) : Type 0 where
-  pub len_is : run.len ≡ len
-  pub next_is : run.next ≡ next
-  pub some : 0 < len
+-- the next byte stands in an unquoted field or at the beginning of a field
+abbrev pub in_unquoted : Phase → Bool
+in_unquoted Input = false
+in_unquoted MarkOne = false
+in_unquoted MarkTwo = false
+in_unquoted Record = false
+in_unquoted RecordCr = false
+in_unquoted (Inside AtField) = true
+in_unquoted (Inside Plain) = true
+in_unquoted (Inside PlainCr) = false
+in_unquoted (Inside Quoted) = false
+in_unquoted (Inside QuoteInQuoted) = false
+in_unquoted (Inside ClosedCr) = false
+in_unquoted (Refused fault) = false
+
+-- the same, or the next byte begins a record
+abbrev pub is_unquoted : Phase → Bool
+is_unquoted Input = false
+is_unquoted MarkOne = false
+is_unquoted MarkTwo = false
+is_unquoted Record = true
+is_unquoted RecordCr = false
+is_unquoted (Inside place) = in_unquoted (Inside place)
+is_unquoted (Refused fault) = false
 
 -- by the grammar, these bytes all belong to the field, and the next one stands at this place
 abbrev pub RunsTo : ℕ → Place → List ℕ → Place → Type 0

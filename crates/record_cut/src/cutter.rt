@@ -5,12 +5,12 @@ ghost use Rattle.words.specs.Separators.{is_separator};
 ghost use Rattle.record_cut.specs.Drafted.{size_of};
 ghost use Rattle.record_cut.specs.declared.cutter.TheConstants.{LONGEST};
 
-use crate::bytes::CARRIAGE_RETURN;
+use crate::bytes::{LINE_FEED, before_quote, before_special};
 use crate::draft::Draft;
 use crate::fault::CutFault;
 use crate::fields::Fields;
-use crate::phase::{Ending, Move, Opening, Phase};
-use crate::place::{ending, opening, read, run_at};
+use crate::phase::{Ending, Move, Opening, Phase, Place};
+use crate::place::{ending, in_unquoted, opening, read};
 use crate::taken::Taken;
 use std::alloc::Global;
 
@@ -32,10 +32,14 @@ pub struct Cutter {
 }
 
 impl Cutter {
-    ghost use Rattle.std.specs.Prelude.{◌≡◌, ℕ, ◌<◌, ◌≤◌, List, [], ◌∷◌, ◌++◌, take, length, Option, Some, None, Result, Ok, Err, IsTrue, IfOk, OnOk, IfErr};
+    ghost use Rattle.std.specs.Prelude.{◌≡◌, ℕ, ◌+◌, ◌<◌, ◌≤◌, true, false, List, [], ◌∷◌, ◌++◌, take, length, Option, Some, None, Result, Ok, Err, IsTrue, IfOk, OnOk, IfErr};
     ghost use Rattle.words.specs.Separators.{is_separator};
     ghost use Rattle.record_cut.specs.StandsFor.{StandsFor, HasRefused, HasBegun};
     ghost use Rattle.record_cut.specs.Feeds.{GoesOn, Feeds, Ends, taken_after};
+    ghost use Rattle.record_cut.specs.Row.{holds_special};
+    ghost use Rattle.record_cut.specs.Moves.{is_unquoted};
+    ghost use Rattle.record_cut.specs.declared.phase.Place.TheVariants.{Quoted};
+    ghost use Rattle.record_cut.specs.declared.phase.Phase.TheVariants.{Inside};
     ghost use Rattle.record_cut.specs.declared.fault.CutFault.{CutFault};
 
     /// A cutter that has read nothing, of a text whose fields `sep` separates: a comma, a semicolon, a tab
@@ -129,7 +133,7 @@ impl Cutter {
         answer
     }
 
-    /// Reads the ordinary bytes that come first, and the byte after them.
+    /// Reads the bytes that come first and only go on with the record, and the byte after them.
     fn feed_run(&mut self, bytes: &[u8]) -> Taken
         requires { 0 < length bytes.now }
         ensures feeds { (sep : ℕ) (before : List ℕ)
@@ -160,12 +164,31 @@ impl Cutter {
         }
         Taken {
             count: run + 1,
-            answer: self.feed(bytes[run]),
+            answer: self.feed_after(bytes[run]),
         }
     }
 
-    /// Takes the ordinary bytes that come first and go on with a field, as many as the record may have, and
-    /// says how many.
+    /// Reads the byte after a run, as `feed` does. Mostly it is the line feed after an unquoted field.
+    fn feed_after(&mut self, byte: u8) -> Result<Option<Fields>, CutFault>
+        ensures feeds { (sep : ℕ) (before : List ℕ)
+            → StandsFor self.old sep before → Feeds sep before (byte ∷ []) result self.new }
+        ensures refuses { IfErr result (HasRefused self.new) }
+        ensures refused { (fault : CutFault) → HasRefused self.old fault → result ≡ Err fault }
+    {
+        if byte != LINE_FEED || !in_unquoted(self.phase) || self.count >= LONGEST {
+            return self.feed(byte);
+        }
+        match self.end_record(Phase::Record, b"") {
+            Ok(fields) => Ok(Some(fields)),
+            Err(fault) => {
+                self.phase = Phase::Refused(fault);
+                Err(fault)
+            }
+        }
+    }
+
+    /// Takes the bytes that come first and only go on with the record, as many as the record may have, and says
+    /// how many.
     fn take_run(&mut self, bytes: &[u8]) -> Result<usize, CutFault>
         ensures within { IfOk result (λ run. run ≤ length bytes.now) }
         ensures goes_on { (sep : ℕ) (before : List ℕ)
@@ -175,18 +198,96 @@ impl Cutter {
         ensures refused { (fault : CutFault) → HasRefused self.old fault
             → HasRefused self.new fault × (result ≡ Ok 0) }
     {
-        let Phase::Inside(place) = self.phase else {
-            return Ok(0);
-        };
         let room = (LONGEST - self.count) as usize;
         let bytes = &bytes[..bytes.len().min(room)];
-        let Some(run) = run_at(place, self.sep, bytes) else {
-            return Ok(0);
-        };
-        self.draft.extend(&bytes[..run.len])?;
-        self.count += run.len as u32;
-        self.phase = Phase::Inside(run.next);
-        Ok(run.len)
+        match self.phase {
+            Phase::Record | Phase::Inside(Place::Field) | Phase::Inside(Place::Plain) => {
+                self.take_unquoted(bytes)
+            }
+            Phase::Inside(Place::Quoted) => self.take_quoted(bytes),
+            _ => Ok(0),
+        }
+    }
+
+    /// Takes the ordinary bytes and the separators that come first, where the next byte is of an unquoted
+    /// field, and says how many.
+    fn take_unquoted(&mut self, bytes: &[u8]) -> Result<usize, CutFault>
+        requires unquoted { is_unquoted self.old.phase ≡ true }
+        requires room { self.old.count + length bytes.now ≤ LONGEST }
+        ensures within { IfOk result (λ run. run ≤ length bytes.now) }
+        ensures goes_on { (sep : ℕ) (before : List ℕ)
+            → StandsFor self.old sep before
+            → IfOk result (λ run. GoesOn sep before (take run bytes.now) [] self.new) }
+        ensures err { IfErr result (λ fault. fault ≡ CutFault.Memory) }
+    {
+        let mut count = 0;
+        while count < bytes.len() {
+            let run = before_special(&bytes[count..], self.sep);
+            if run > 0 {
+                self.take_ordinary(&bytes[count..count + run])?;
+                count += run;
+            } else if bytes[count] == self.sep {
+                self.take_separator(bytes[count])?;
+                count += 1;
+            } else {
+                return Ok(count);
+            }
+        }
+        Ok(count)
+    }
+
+    /// Takes ordinary bytes of an unquoted field.
+    fn take_ordinary(&mut self, bytes: &[u8]) -> Result<(), CutFault>
+        requires unquoted { is_unquoted self.old.phase ≡ true }
+        requires some { 0 < length bytes.now }
+        requires room { self.old.count + length bytes.now ≤ LONGEST }
+        requires ordinary { holds_special self.old.sep bytes.now ≡ false }
+        ensures goes_on { (sep : ℕ) (before : List ℕ)
+            → StandsFor self.old sep before
+            → OnOk result (GoesOn sep before bytes.now [] self.new) }
+        ensures unquoted { OnOk result (is_unquoted self.new.phase ≡ true) }
+        ensures count { OnOk result (self.new.count ≡ self.old.count + length bytes.now) }
+        ensures err { IfErr result (λ fault. fault ≡ CutFault.Memory) }
+    {
+        self.draft.extend(bytes)?;
+        self.count += bytes.len() as u32;
+        self.phase = Phase::Inside(Place::Plain);
+        Ok(())
+    }
+
+    /// Takes the separator that ends an unquoted field.
+    fn take_separator(&mut self, byte: u8) -> Result<(), CutFault>
+        requires unquoted { is_unquoted self.old.phase ≡ true }
+        requires room { self.old.count < LONGEST }
+        requires separator { byte ≡ self.old.sep }
+        ensures goes_on { (sep : ℕ) (before : List ℕ)
+            → StandsFor self.old sep before
+            → OnOk result (GoesOn sep before (byte ∷ []) [] self.new) }
+        ensures unquoted { OnOk result (is_unquoted self.new.phase ≡ true) }
+        ensures count { OnOk result (self.new.count ≡ self.old.count + 1) }
+        ensures err { IfErr result (λ fault. fault ≡ CutFault.Memory) }
+    {
+        self.count += 1;
+        self.draft.end_field()?;
+        self.phase = Phase::Inside(Place::Field);
+        Ok(())
+    }
+
+    /// Takes the bytes that come before the first quote, where the next byte is of a quoted field, and says how
+    /// many.
+    fn take_quoted(&mut self, bytes: &[u8]) -> Result<usize, CutFault>
+        requires quoted { self.old.phase ≡ Inside Quoted }
+        requires room { self.old.count + length bytes.now ≤ LONGEST }
+        ensures within { IfOk result (λ run. run ≤ length bytes.now) }
+        ensures goes_on { (sep : ℕ) (before : List ℕ)
+            → StandsFor self.old sep before
+            → IfOk result (λ run. GoesOn sep before (take run bytes.now) [] self.new) }
+        ensures err { IfErr result (λ fault. fault ≡ CutFault.Memory) }
+    {
+        let run = before_quote(bytes);
+        self.draft.extend(&bytes[..run])?;
+        self.count += run as u32;
+        Ok(run)
     }
 
     /// The next byte, where nothing has been refused.

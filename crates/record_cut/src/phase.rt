@@ -47,15 +47,6 @@ pub(crate) enum Move {
     EndRecord,
 }
 
-/// The bytes at a place that all belong to the field there.
-#[derive(Clone, Copy)]
-pub(crate) struct Run {
-    /// How many.
-    pub(crate) len: usize,
-    /// Where the next byte stands.
-    pub(crate) next: Place,
-}
-
 /// What the end of a text leaves.
 #[derive(Clone, Copy)]
 pub(crate) enum Ending {

@@ -1,15 +1,27 @@
 //! What a byte does at each place of a record.
 
-ghost use Rattle.std.specs.Prelude.{◌+◌, ◌<◌, ◌≤◌, ◌^◌, ℕ, length, take, IsTrue, IfSome};
+ghost use Rattle.std.specs.Prelude.{◌≡◌, ◌+◌, ◌<◌, ◌≤◌, ◌^◌, ℕ, IsTrue};
 ghost use Rattle.words.specs.Separators.{is_separator};
 ghost use Rattle.record_cut.specs.Drafted.{Drafted, size_of};
 ghost use Rattle.record_cut.specs.Resumed.{FitsPlace, Fits};
-ghost use Rattle.record_cut.specs.Moves.{AddsByte, EndsField, Moves, Opens, IsRun, RunsTo, Leaves};
+ghost use Rattle.record_cut.specs.Moves.{in_unquoted, AddsByte, EndsField, Moves, Opens, Leaves};
 
-use crate::bytes::{CARRIAGE_RETURN, LINE_FEED, MARK, QUOTE, before_quote, before_special};
+use crate::bytes::{CARRIAGE_RETURN, LINE_FEED, MARK, QUOTE};
 use crate::draft::Draft;
 use crate::fault::CutFault;
-use crate::phase::{Ending, Move, Opening, Phase, Place, Run};
+use crate::phase::{Ending, Move, Opening, Phase, Place};
+
+/// Whether the next byte stands in an unquoted field or at the beginning of a field.
+#[inline]
+pub(crate) fn in_unquoted(phase: Phase) -> bool
+    ensures { result ≡ in_unquoted phase }
+{
+    match phase {
+        Phase::Inside(Place::Field) => true,
+        Phase::Inside(Place::Plain) => true,
+        _ => false,
+    }
+}
 
 /// What the byte is to be taken for after what has been read of the record.
 pub(crate) fn opening(phase: Phase, byte: u8) -> Opening
@@ -67,30 +79,6 @@ fn ending_at(place: Place) -> Ending
         Place::PlainCr => Ending::FieldAndCr,
         Place::Quoted => Ending::Refuse(CutFault::OpenQuote),
         Place::ClosedCr => Ending::Refuse(CutFault::BadQuote),
-    }
-}
-
-/// The bytes that come first at this place and all belong to the field, if there are any.
-pub(crate) fn run_at(place: Place, sep: u8, bytes: &[u8]) -> Option<Run>
-    requires { IsTrue (is_separator sep) }
-    ensures within { IfSome result (λ run. run.len ≤ length bytes.now) }
-    ensures runs { IfSome result (λ run. RunsTo sep place (take run.len bytes.now) run.next) }
-{
-    match place {
-        Place::Field | Place::Plain => run_of(before_special(bytes, sep), Place::Plain),
-        Place::Quoted => run_of(before_quote(bytes), Place::Quoted),
-        Place::PlainCr | Place::QuoteInQuoted | Place::ClosedCr => None,
-    }
-}
-
-/// A run of so many bytes, if these are any.
-fn run_of(len: usize, next: Place) -> Option<Run>
-    ensures { IfSome result (IsRun len next) }
-{
-    if len > 0 {
-        Some(Run { len, next })
-    } else {
-        None
     }
 }
 

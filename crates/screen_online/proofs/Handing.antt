@@ -1,16 +1,13 @@
 -- What is left once a piece, or the end, was given to the repair and its text was written.
-use Rattle.std.proofs.Common.{◌≡◌, ◌≢◌, ℕ, Bool, false, List, [], Option, Some, Result, Ok, Err, refl, sym, ◌∙◌, subst}
-use Rattle.std.specs.Prelude.{OnOk, OnErr}
-use Rattle.online_repair.specs.Feeds.{Answers, Feeds}
-use Rattle.online_repair.specs.StandsFor.{HasEnded, OnlineView, StandsFor}
+use Rattle.std.proofs.Common.{◌≡◌, ◌≢◌, ℕ, Bool, List, [], Option, Some, Result, Ok, Err, refl, subst}
+use Rattle.online_repair.specs.Feeds.{Feeds}
+use Rattle.online_repair.specs.StandsFor.{OnlineView}
 use Rattle.online_repair.specs.declared.fault.OnlineFault.{OnlineFault}
 use Rattle.online_repair.specs.declared.fault.OnlineFault.TheVariants as fault
-use Rattle.online_repair.specs.declared.online.Stage.{Stage}
-use Rattle.online_repair.specs.declared.online.Stage.TheVariants.{Open, Ended as IsOver}
 use Rattle.rule_file.specs.declared.rules.Rules.{Rules}
-use Rattle.screen_io.specs.Faults.{Rose, HasCause}
-use Rattle.screen_io.specs.Sink.{Gains, GainsPrefix}
-use Rattle.screen_steps.specs.Performance.{IsCut, IsWritten}
+use Rattle.screen_io.specs.Faults.{Rose}
+use Rattle.screen_io.specs.Sink.{GainsPrefix}
+use Rattle.screen_steps.specs.Performance.{IsWritten}
 use Rattle.screen_online.specs.Steps.{Hands, HandsOn}
 use Rattle.screen_words.specs.Faults.{online_ending}
 use Rattle.screen_words.specs.declared.status.Ending.{Ending}

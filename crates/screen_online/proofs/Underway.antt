@@ -1,7 +1,7 @@
 -- The readings of a stream, piece by piece: from the bytes that came to more of them, and to each end.
 use Rattle.std.proofs.Common.{◌≡◌, ◌≢◌, inl, inr, ℕ, ◌+◌, ◌<◌, ◌≤◌, Bool, true, false, List, [], ◌∷◌, ◌++◌, length, take, Option, Some, None, Result, Ok, Err, refl, sym, ap, ◌∙◌, subst, arith, append_assoc, append-nil, length-append}
 use Rattle.std.proofs.Math.Seq.{take-append_seam}
-use Rattle.online_repair.specs.Feeds.{Answers, Appends, Refuses, Takes as TakesPiece}
+use Rattle.online_repair.specs.Feeds.{Answers, Appends, Refuses}
 use Rattle.online_repair.specs.NotOnline.{not_online}
 use Rattle.online_repair.specs.Output.{IsOutput, Output}
 use Rattle.online_repair.specs.StandsFor.{OnlineView, StandsFor}
@@ -9,13 +9,12 @@ use Rattle.online_repair.specs.declared.fault.OnlineFault.{OnlineFault}
 use Rattle.online_repair.specs.declared.fault.OnlineFault.TheVariants as fault
 use Rattle.rule_file.specs.declared.rules.Rules.{Rules}
 use Rattle.screen_io.specs.Faults.{Rose}
-use Rattle.screen_io.specs.Sink.{Gains, GainsPrefix}
 use Rattle.screen_io.specs.Source.{Takes, IsAtEnd}
 use Rattle.screen_io.proofs.Steps.{Takes-more, Takes-nothing}
-use Rattle.screen_online.specs.Online.{AfterStart, HasText, IsBroken, IsRefused, IsTooMuch, IsWhole, IsWrittenFor, ending_for, streamed}
+use Rattle.screen_online.specs.Online.{AfterStart, HasText, IsBroken, IsRefused, IsTooMuch, IsWhole, ending_for, streamed}
 use Rattle.screen_online.specs.Steps.{Hands, HasWritten, IsBegun, IsCutOff, IsGiven, IsStarved, IsUnderWay, Repairs}
 use Rattle.screen_online.specs.declared.stream.TheConstants.{MOST_BYTES, PIECE}
-use Rattle.screen_online.proofs.Written.{IsPart, front_written, more_written, nothing_yet, part_written, piece_written}
+use Rattle.screen_online.proofs.Written.{front_written, more_written, nothing_yet, part_written, piece_written}
 use Rattle.screen_steps.specs.Answer.{Answer, Whole, Begun, Unread}
 use Rattle.screen_steps.specs.Files.{without_texts}
 use Rattle.screen_steps.specs.Performance.{IsCut, IsWritten, Stays}

@@ -2,7 +2,7 @@
 use Rattle.std.proofs.Common.{◌≡◌, ℕ, ◌+◌, ◌≤◌, false, List, [], ◌++◌, length, take, Option, Some, None, refl, sym, ap, ◌∙◌, subst, arith, append_assoc, length-append}
 use Rattle.std.proofs.Math.Seq.{take-append_seam, take-append-add}
 use Rattle.online_repair.specs.Feeds.{Appends, AppendsPart, Takes}
-use Rattle.online_repair.specs.Output.{IsOutput, Output}
+use Rattle.online_repair.specs.Output.{Output}
 use Rattle.rule_file.specs.declared.rules.Rules.{Rules}
 use Rattle.screen_io.specs.Faults.{Rose}
 use Rattle.screen_io.specs.Sink.{Gains, GainsPrefix}

@@ -12,7 +12,7 @@ use Rattle.screen_io.specs.Sink.{Gains, GainsPrefix}
 use Rattle.screen_io.specs.Source.{Takes, IsAtEnd}
 use Rattle.screen_steps.specs.Answer.{Extent, Whole, Begun, Unread, Answer}
 use Rattle.screen_steps.specs.Files.{AfterRules, without_texts}
-use Rattle.screen_steps.specs.Performance.{IsAnswerTo, IsRead, IsWritten, LeavesSinks, Performs, Stays, StopsAtRules}
+use Rattle.screen_steps.specs.Performance.{IsRead, IsWritten, LeavesSinks, Performs, Stays, StopsAtRules}
 use Rattle.screen_online.specs.declared.stream.TheConstants.{MOST_BYTES, PIECE}
 use Rattle.screen_words.specs.Faults.{online_ending}
 use Rattle.screen_words.specs.declared.ends.Inputs.{Inputs}

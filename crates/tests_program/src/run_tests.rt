@@ -591,7 +591,18 @@ fn a_read_that_fails_writes_nothing(rt: HostRuntime) -> Result<(), Fail> {
     let alloc = rt.alloc();
     let note = b"screen: a read failed\n";
     // Sixteen bytes come in each call, and none in the last one.
-    for (rules, readings) in [(1, 0), (3, 0), (7, 0), (0, 1), (0, 2), (0, 3)] {
+    for (rules, readings) in [
+        (1, 0),
+        (2, 0),
+        (3, 0),
+        (4, 0),
+        (5, 0),
+        (6, 0),
+        (7, 0),
+        (0, 1),
+        (0, 2),
+        (0, 3),
+    ] {
         let rules = source(alloc, BASE.as_bytes(), &[rules])?;
         let readings = source(alloc, READINGS, &[readings])?;
         run_with(alloc, &GLOBAL, rules, readings, sink(alloc, &[])?)?.assert_is(

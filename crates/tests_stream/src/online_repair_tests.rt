@@ -1,5 +1,6 @@
 //! Files that are repaired as they come, whole and in pieces.
 
+ghost use Rattle.std.specs.Prelude.{IfOk};
 ghost use Rattle.online_repair.specs.StandsFor.{HasEnded};
 
 use online_repair::{Online, OnlineFault};
@@ -199,6 +200,13 @@ const CASES: [Case; 16] = [
     (NONE, "time,x\n0,abc\n1,\n", "time,x\n0,abc\n1,\n", None),
 ];
 
+/// A repair that takes pieces.
+fn start<'a>(alloc: Global, rules: &'a Rules) -> Result<Online<'a>, OnlineFault>
+    ensures { IfOk result (λ online. ¬ HasEnded online) }
+{
+    Online::start(alloc, rules)
+}
+
 /// Feeds a file in pieces of so many bytes.
 fn feed_pieces(
     online: &mut Online<'_>,
@@ -223,7 +231,7 @@ fn online_text(
     size: usize,
     out: &mut Vec<u8>,
 ) -> Result<(), OnlineFault> {
-    let mut online = Online::start(alloc, rules)?;
+    let mut online = start(alloc, rules)?;
     feed_pieces(&mut online, file, size, out)?;
     online.finish(out)
 }
@@ -252,7 +260,7 @@ fn files_are_repaired_as_they_come(rt: HostRuntime) -> Result<(), Fail> {
 #[test]
 fn rows_are_written_as_they_become_ready(rt: HostRuntime) -> Result<(), Fail> {
     let rules = read_rules(rt.alloc(), WINDOW_2.as_bytes())?;
-    let mut online = Online::start(rt.alloc(), &rules)?;
+    let mut online = start(rt.alloc(), &rules)?;
     let mut out = Vec::new(rt.alloc());
     online.feed(b"time,x\n0,10\n1,11\n2,20\n", &mut out)?;
     assert_eq!(rt; out.as_slice(), b"time,x\n".as_slice());
@@ -264,7 +272,7 @@ fn rows_are_written_as_they_become_ready(rt: HostRuntime) -> Result<(), Fail> {
 #[test]
 fn held_rows_are_counted(rt: HostRuntime) -> Result<(), Fail> {
     let rules = read_rules(rt.alloc(), WINDOW_2.as_bytes())?;
-    let mut online = Online::start(rt.alloc(), &rules)?;
+    let mut online = start(rt.alloc(), &rules)?;
     let mut out = Vec::new(rt.alloc());
     online.feed(b"time,x\n0,10\n1,11\n2,20\n3,13\n", &mut out)?;
     assert_eq!(rt; online.held(), 3);
@@ -276,7 +284,7 @@ fn held_rows_are_counted(rt: HostRuntime) -> Result<(), Fail> {
 #[test]
 fn a_sensor_has_a_window(rt: HostRuntime) -> Result<(), Fail> {
     let rules = read_rules(rt.alloc(), WINDOW_2.as_bytes())?;
-    let mut online = Online::start(rt.alloc(), &rules)?;
+    let mut online = start(rt.alloc(), &rules)?;
     assert!(rt; online.window(2).is_none());
     online.feed(b"time,x\n0,10\n", &mut Vec::new(rt.alloc()))?;
     assert!(rt; online.window(1).is_none());
@@ -287,7 +295,7 @@ fn a_sensor_has_a_window(rt: HostRuntime) -> Result<(), Fail> {
 #[test]
 fn a_refusal_is_kept(rt: HostRuntime) -> Result<(), Fail> {
     let rules = read_rules(rt.alloc(), WINDOW_2.as_bytes())?;
-    let mut online = Online::start(rt.alloc(), &rules)?;
+    let mut online = start(rt.alloc(), &rules)?;
     let mut out = Vec::new(rt.alloc());
     let fault = online.feed(b"time,x\n0,10\n0,11\n", &mut out).err();
     assert!(rt; fault.is_some());

@@ -1,5 +1,4 @@
-use Rattle.std.proofs.Common.{◌≡◌, ℕ, suc, ◌+◌, ℤ, Bool, true, false, List, length, FitsSigned, to_z, of_z, rules, refl, sym, ap, ◌∙◌, subst, arith}
-use Rattle.std.specs.Prelude.{None}
+use Rattle.std.proofs.Common.{◌≡◌, suc, ◌+◌, ℤ, Bool, true, false, length, FitsSigned, to_z, of_z, rules, refl, sym, ◌∙◌, subst, arith}
 use Rattle.std.specs.Int.{w64}
 use Rattle.std.proofs.lemmas.Int.{to_z-of_z}
 use Rattle.online_repair.specs.Engines.{is_full_at}

@@ -1,4 +1,4 @@
-use Rattle.std.proofs.Common.{◌≡◌, ℕ, ◌+◌, ℤ, length, get_or, FitsSigned, to_z, of_z, rules, sym, ap, ◌∙◌, subst, arith}
+use Rattle.std.proofs.Common.{◌≡◌, ℕ, ◌+◌, ℤ, length, FitsSigned, to_z, rules, sym, ap, ◌∙◌, subst}
 use Rattle.std.specs.Int.{int_max, w64}
 use Rattle.std.proofs.lemmas.Int.{to_z-of_z}
 use Rattle.rule_file.specs.declared.rules.SpeedRule.{SpeedRule}

@@ -1,4 +1,3 @@
-use Rattle.std.proofs.Common.{◌≡◌, ◌≤◌, length, rules}
 use Rattle.online_repair.proofs.Greatest.{not_full}
 use Rattle.online_repair.proofs.engine.is_full.Goals as goal
 

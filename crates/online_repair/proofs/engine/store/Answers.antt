@@ -1,4 +1,4 @@
-use Rattle.std.proofs.Common.{◌≡◌, ℤ, ◌<◌, length, FitsSigned, to_z, of_z, rules, refl, ap, ◌∙◌, subst, arith}
+use Rattle.std.proofs.Common.{ℤ, length, FitsSigned, rules, refl, ap, ◌∙◌, subst, arith}
 use Rattle.std.specs.Prelude.{Ok, Err}
 use Rattle.std.specs.Int.{w64}
 use Rattle.std.proofs.lemmas.Int.{to_z-of_z}
@@ -6,7 +6,7 @@ use Rattle.circular_buffer.specs.Buffer.{Buffer}
 use Rattle.series_rows.specs.Row.{RowView}
 use Rattle.online_repair.specs.Engines.{WritesRows, due_part, rest_part}
 use Rattle.online_repair.specs.declared.engine.Engine.{Engine}
-use Rattle.online_repair.proofs.Stored.{AreWritten, are_written, is_stored, rest_room, started}
+use Rattle.online_repair.proofs.Stored.{are_written, is_stored, rest_room, started}
 use Rattle.online_repair.proofs.engine.store.Goals as goal
 
 pub write_ready-requires : goal.write_ready-requires

@@ -1,5 +1,4 @@
-use Rattle.std.proofs.Common.{◌≡◌, ℕ, Bool, true, false, List, [], ◌∷◌, length, refl, sym, ap, ◌∙◌}
-use Rattle.series_rows.specs.Row.{RowView}
+use Rattle.std.proofs.Common.{[], sym}
 use Rattle.online_repair.proofs.Round.{all_parts, can_go_on, goes_on, none_held, some_held, stops, through}
 use Rattle.online_repair.proofs.engine.write_all.Goals as goal
 

@@ -1,10 +1,9 @@
-use Rattle.std.proofs.Common.{◌≡◌, true, false, ℤ, List, [], ◌∷◌, length, FitsSigned, to_z, of_z, rules, refl, sym, ap, ◌∙◌, subst, arith}
+use Rattle.std.proofs.Common.{◌≡◌, ℤ, List, ◌∷◌, FitsSigned, to_z, of_z, rules, sym, ap, ◌∙◌, subst}
 use Rattle.std.specs.Int.{w64}
 use Rattle.std.proofs.lemmas.Int.{to_z-of_z}
 use Rattle.std.specs.Prelude.{Ok, Err}
-use Rattle.series_rows.specs.Header.{HeaderView}
 use Rattle.series_rows.specs.Row.{RowView}
-use Rattle.online_repair.specs.Engines.{Stands, WritesRows, due_part, first_due, rest_part}
+use Rattle.online_repair.specs.Engines.{WritesRows, due_part, first_due, rest_part}
 use Rattle.online_repair.proofs.Round.{all_rest, can_go_on, due_parts, due_some, goes_on, none_due, stops, through}
 use Rattle.online_repair.proofs.engine.write_ready.Goals as goal
 

@@ -1,4 +1,4 @@
-use Rattle.std.proofs.Common.{length, pos, FitsSigned, rules, sym, ap, ◌≤◌, ◌∙◌, arith}
+use Rattle.std.proofs.Common.{length, pos, FitsSigned, rules, ap, ◌≤◌, ◌∙◌, arith}
 use Rattle.std.specs.Int.{w64}
 use Rattle.std.proofs.lemmas.Int.{to_z-of_z}
 use Rattle.series_rows.specs.declared.cell.RowReading.{RowReading}

@@ -1,4 +1,4 @@
-use Rattle.std.proofs.Common.{List, ◌∷◌, [], ◌++◌, sym, subst}
+use Rattle.std.proofs.Common.{List, sym, subst}
 use Rattle.std.specs.List.{AllByRecursion}
 use Rattle.words.proofs.Lists.{all_push}
 use Rattle.rule_file.specs.declared.rules.SpeedRule.{SpeedRule}

@@ -1,4 +1,4 @@
-use Rattle.std.proofs.Common.{ℤ, List, get_or, pos, false, FitsSigned, rules, sym, ap, ◌∙◌, ◌≡◌}
+use Rattle.std.proofs.Common.{ℤ, List, get_or, pos, FitsSigned, rules, sym, ap, ◌∙◌}
 use Rattle.std.specs.Int.{w64}
 use Rattle.std.proofs.lemmas.Int.{to_z-of_z}
 use Rattle.series_rows.specs.declared.cell.RowReading.{RowReading}

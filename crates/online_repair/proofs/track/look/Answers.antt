@@ -1,12 +1,11 @@
-use Rattle.std.proofs.Common.{◌≡◌, ℕ, ◌+◌, ◌<◌, ◌≤◌, length, take, ℤ, ◌-ℤ◌, ◌≤ℤ◌, ◌<ℤ◌, FitsSigned, rules, refl, sym, ap, ◌∙◌, subst, arith}
+use Rattle.std.proofs.Common.{length, ℤ, ◌-ℤ◌, ◌≤ℤ◌, ◌<ℤ◌, FitsSigned, rules, refl, sym, ap, subst, arith}
 use Rattle.std.specs.Int.{w64}
 use Rattle.std.proofs.lemmas.Int.{to_z-of_z}
-use Rattle.series_rows.specs.Row.{RowView}
 use Rattle.order_window.specs.declared.key.Key.{Key}
 use Rattle.std.specs.Prelude.{List}
-use Rattle.online_repair.specs.Rows.{keys_in, reading_in}
-use Rattle.online_repair.specs.Tracks.{Fits, IsLike, IsLooking}
-use Rattle.online_repair.proofs.Looking.{at_place, front_few, like_next, looked_next, is_past, next_fits, next_keys, next_near, none_beyond, not_past, past_end, rest_beyond}
+use Rattle.online_repair.specs.Rows.{reading_in}
+use Rattle.online_repair.specs.Tracks.{Fits, IsLooking}
+use Rattle.online_repair.proofs.Looking.{at_place, front_few, like_next, looked_next, is_past, next_fits, none_beyond, not_past, past_end, rest_beyond}
 use Rattle.online_repair.proofs.track.look.Goals as goal
 
 pub returns-then-is_past-clause-looked : goal.returns-then-is_past-clause-looked

@@ -1,4 +1,4 @@
-use Rattle.std.proofs.Common.{ℤ, pos, get_or, FitsSigned, to_z, of_z, rules, sym, ap, ◌∙◌}
+use Rattle.std.proofs.Common.{ℤ, pos, get_or, FitsSigned, rules, sym, ap, ◌∙◌}
 use Rattle.std.specs.Prelude.{Some}
 use Rattle.std.specs.Int.{w64}
 use Rattle.std.proofs.lemmas.Int.{to_z-of_z}

@@ -4,7 +4,7 @@ use Rattle.std.proofs.lemmas.List.{length_push}
 use Rattle.screen_model.specs.declared.place.Place.{Place}
 use Rattle.words.specs.Lists.{Distinct}
 use Rattle.words.proofs.Lists.{all_push}
-use Rattle.bound_graph.proofs.tests.column.Goals as goal
+use Rattle.tests_solver.proofs.bound_graph_tests.column.Goals as goal
 
 rows_push : (places : List Place) (i : ℕ) (p : Place) → p.row ≤ i + 1 → AllByRecursion (λ q. q.row ≤ i) places → AllByRecursion (λ q. q.row ≤ i + 1) (places ++ p ∷ [])
 rows_push [] i p here rows = (here, tt)

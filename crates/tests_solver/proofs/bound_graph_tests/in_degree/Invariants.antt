@@ -1,5 +1,5 @@
 use Rattle.std.proofs.Common.{◌≤◌}
-use Rattle.bound_graph.proofs.tests.in_degree.Given as goal
+use Rattle.tests_solver.proofs.bound_graph_tests.in_degree.Given as goal
 
 abbrev pub invariant-loop-i : goal.invariant-loop-i
 invariant-loop-i g l = l.count ≤ l.i

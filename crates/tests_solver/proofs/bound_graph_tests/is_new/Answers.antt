@@ -4,7 +4,7 @@ use Rattle.std.proofs.lemmas.List.{take_more, take_all}
 use Rattle.std.proofs.lemmas.Bool.Decides.{nat_tests}
 use Rattle.screen_model.specs.declared.place.Place.{Place}
 use Rattle.words.proofs.Lists.{all_push}
-use Rattle.bound_graph.proofs.tests.is_new.Goals as goal
+use Rattle.tests_solver.proofs.bound_graph_tests.is_new.Goals as goal
 
 -- places that differ by the test of rows and columns differ
 differ : (p q : Place) → ((p.row == q.row) && (p.col == q.col)) ≡ false → q ≢ p

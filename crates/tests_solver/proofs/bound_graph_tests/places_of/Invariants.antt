@@ -1,5 +1,5 @@
 use Rattle.words.specs.Lists.{Distinct}
-use Rattle.bound_graph.proofs.tests.places_of.Given as goal
+use Rattle.tests_solver.proofs.bound_graph_tests.places_of.Given as goal
 
 abbrev pub invariant-loop-cell : goal.invariant-loop-cell
 invariant-loop-cell l = Distinct l.places

@@ -1,7 +1,7 @@
 use Rattle.std.proofs.Common.{◌≢◌, subst}
 use Rattle.std.specs.List.{AllByRecursion}
 use Rattle.words.proofs.Lists.{distinct_push}
-use Rattle.bound_graph.proofs.tests.push_new.Goals as goal
+use Rattle.tests_solver.proofs.bound_graph_tests.push_new.Goals as goal
 
 pub returns-in_ok-push : goal.returns-in_ok-push
 returns-in_ok-push c =

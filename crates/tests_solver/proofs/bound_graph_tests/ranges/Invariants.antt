@@ -1,7 +1,7 @@
 use Rattle.std.proofs.Common.{length}
 use Rattle.std.specs.List.{AllByRecursion}
 use Rattle.screen_model.specs.Obeys.{HasEnds}
-use Rattle.bound_graph.proofs.tests.ranges.Given as goal
+use Rattle.tests_solver.proofs.bound_graph_tests.ranges.Given as goal
 
 abbrev pub invariant-loop-place : goal.invariant-loop-place
 invariant-loop-place l = AllByRecursion (HasEnds l.fn.places) l.bounds

@@ -4,7 +4,7 @@ use Rattle.screen_model.specs.declared.place.Place.{Place}
 use Rattle.screen_model.specs.Obeys.{HasEnds}
 use Rattle.words.proofs.Lists.{all_push}
 use Rattle.bound_graph.proofs.Members.{contains_at}
-use Rattle.bound_graph.proofs.tests.ring.Goals as goal
+use Rattle.tests_solver.proofs.bound_graph_tests.ring.Goals as goal
 
 pub loop-i-preserved : goal.loop-i-preserved
 loop-i-preserved c =

@@ -1,7 +1,7 @@
 use Rattle.std.proofs.Common.{◌≡◌, ◌≤◌, ◌*◌, ◌^◌, length, unsigned_abs}
 use Rattle.std.specs.List.{AllByRecursion}
 use Rattle.screen_model.specs.Obeys.{HasEnds}
-use Rattle.bound_graph.proofs.tests.ring.Given as goal
+use Rattle.tests_solver.proofs.bound_graph_tests.ring.Given as goal
 
 abbrev pub invariant-loop-i : goal.invariant-loop-i
 invariant-loop-i l = record {

@@ -5,7 +5,7 @@ use Rattle.screen_model.specs.declared.bound.Bound.{Bound}
 use Rattle.screen_model.specs.Obeys.{HasEnds}
 use Rattle.cancel_flow.specs.Examples.{four_places, AreSound}
 use Rattle.cancel_flow.proofs.Examples.{one_more}
-use Rattle.cancel_flow.proofs.tests.add.Goals as goal
+use Rattle.tests_solver.proofs.cancel_flow_tests.add.Goals as goal
 
 pub returns-clause-sound : goal.returns-clause-sound
 returns-clause-sound c =

@@ -1,7 +1,7 @@
 use Rattle.std.proofs.Common.{◌≡◌, List, ap, length, replicate, rules}
 use Rattle.screen_model.specs.declared.bound.Bound.{Bound}
 use Rattle.cancel_flow.proofs.Examples.{begun, is_new}
-use Rattle.cancel_flow.proofs.tests.network.Goals as goal
+use Rattle.tests_solver.proofs.cancel_flow_tests.network.Goals as goal
 
 pub loop-line-init : goal.loop-line-init
 loop-line-init g c =

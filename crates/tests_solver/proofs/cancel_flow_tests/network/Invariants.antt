@@ -1,6 +1,6 @@
 use Rattle.std.proofs.Common.{◌≡◌, ◌+◌, length}
 use Rattle.cancel_flow.specs.Examples.{AreSound}
-use Rattle.cancel_flow.proofs.tests.network.Given as goal
+use Rattle.tests_solver.proofs.cancel_flow_tests.network.Given as goal
 
 abbrev pub invariant-loop-line : goal.invariant-loop-line
 invariant-loop-line g l = record {

@@ -7,7 +7,7 @@ use Rattle.screen_model.specs.declared.bound.Bound.{Bound}
 use Rattle.screen_model.specs.Obeys.{HasEnds, Priced, with_prices}
 use Rattle.flow_core.specs.Layout.{IsRanged}
 use Rattle.flow_core.proofs.Examples.{in_row, between, at_most, at_least, ranged_by}
-use Rattle.flow_core.proofs.tests.four_readings.Goals as goal
+use Rattle.tests_solver.proofs.flow_core_tests.four_readings.Goals as goal
 
 abbrev the_places : List Place
 the_places = in_row 1 ∷ in_row 2 ∷ in_row 3 ∷ in_row 4 ∷ []

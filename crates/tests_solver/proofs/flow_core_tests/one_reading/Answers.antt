@@ -5,7 +5,7 @@ use Rattle.screen_model.specs.declared.bound.Bound.{Bound}
 use Rattle.screen_model.specs.Obeys.{with_prices}
 use Rattle.flow_core.specs.Layout.{IsRanged}
 use Rattle.flow_core.proofs.Examples.{in_row, between, at_most, at_least, ranged_by}
-use Rattle.flow_core.proofs.tests.one_reading.Goals as goal
+use Rattle.tests_solver.proofs.flow_core_tests.one_reading.Goals as goal
 
 abbrev the_bounds : List Bound
 the_bounds = at_most 1 ∷ at_least 1 ∷ between Zero (At (in_row 1)) (pos 50) ∷ []

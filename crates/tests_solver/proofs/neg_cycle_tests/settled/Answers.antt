@@ -1,7 +1,7 @@
 use Rattle.std.proofs.Common.{ℤ, ◌≤◌, ◌*◌, ◌^◌, List, length, unsigned_abs, to_z, of_z, w64, ap, ◌∙◌, rules}
 use Rattle.std.proofs.lemmas.List.{length-set}
 use Rattle.std.proofs.lemmas.List.Elements.{All-same, All-set}
-use Rattle.neg_cycle.proofs.tests.settled.Goals as goal
+use Rattle.tests_solver.proofs.neg_cycle_tests.settled.Goals as goal
 
 pub loop-node-preserved : goal.loop-node-preserved
 loop-node-preserved g c =

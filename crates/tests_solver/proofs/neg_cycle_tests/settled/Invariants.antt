@@ -1,6 +1,6 @@
 use Rattle.std.proofs.Common.{◌≡◌, ◌≤◌, ◌*◌, ◌^◌, length, unsigned_abs}
 use Rattle.std.specs.List.{All}
-use Rattle.neg_cycle.proofs.tests.settled.Given as goal
+use Rattle.tests_solver.proofs.neg_cycle_tests.settled.Given as goal
 
 abbrev pub invariant-loop-node : goal.invariant-loop-node
 invariant-loop-node g l = record {

@@ -1,5 +1,5 @@
 use Rattle.std.proofs.Common.{◌≡◌, length}
-use Rattle.node_heap.proofs.tests.play.Given as goal
+use Rattle.tests_solver.proofs.node_heap_tests.play.Given as goal
 
 abbrev pub invariant-loop : goal.invariant-loop
 invariant-loop g l = record { same : l.heap ≡ l.table.items; size : length l.table.items ≡ l.nodes }

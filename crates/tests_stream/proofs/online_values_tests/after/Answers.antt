@@ -5,7 +5,7 @@ use Rattle.std.proofs.lemmas.Int.{to_z-of_z}
 use Rattle.order_window.specs.declared.key.Key.{Key}
 use Rattle.online_values.proofs.Steps.{true_less}
 use Rattle.online_values.specs.Sensor.{SensorView}
-use Rattle.online_values.proofs.tests.after.Goals as goal
+use Rattle.tests_stream.proofs.online_values_tests.after.Goals as goal
 
 pub result-requires-clause-later : goal.result-requires-clause-later
 result-requires-clause-later c =

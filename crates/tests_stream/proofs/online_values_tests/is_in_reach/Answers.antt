@@ -6,7 +6,7 @@ use Rattle.std.proofs.lemmas.Nat.{mul-le}
 use Rattle.words.proofs.Products.{size_within}
 use Rattle.std.proofs.lemmas.Int.{ints}
 use Rattle.fix_point.proofs.Rates.{power_small}
-use Rattle.online_values.proofs.tests.is_in_reach.Goals as goal
+use Rattle.tests_stream.proofs.online_values_tests.is_in_reach.Goals as goal
 
 read_size : (z : ℤ) (n m most : ℕ) → FitsSigned w64 z → n ≡ unsigned_abs (to_z w64 (of_z w64 z)) → m ≡ n → unsigned_abs z ≤ most → m ≤ most
 read_size z n m most fits e f h = omega (arith, f ∙ e ∙ ap unsigned_abs (to_z-of_z w64 z fits), h)

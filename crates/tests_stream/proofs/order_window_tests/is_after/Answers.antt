@@ -6,7 +6,7 @@ use Rattle.words.proofs.Products.{within_size}
 use Rattle.order_window.specs.declared.key.Key.{Key}
 use Rattle.order_window.specs.Window.{AreApart, IsAfter}
 use Rattle.order_window.proofs.Heights.{read_less}
-use Rattle.order_window.proofs.tests.is_after.Goals as goal
+use Rattle.tests_stream.proofs.order_window_tests.is_after.Goals as goal
 
 after_of : (span : ℤ) (own key : Key) → own.ticks <ℤ key.ticks → AreApart span key own → IsAfter span own key
 after_of span own key less apart =

@@ -5,7 +5,7 @@ use Rattle.std.proofs.lemmas.Int.{to_z-of_z}
 use mir.Syntax.{w64}
 use Rattle.words.proofs.Lists.{all_push}
 use Rattle.fix_point.specs.declared.scale.TheConstants.{MOST_UNITS}
-use Rattle.series_rows.proofs.tests.written.Goals as goal
+use Rattle.tests_tables.proofs.series_rows_tests.written.Goals as goal
 
 pub loop-place-preserved : goal.loop-place-preserved
 loop-place-preserved c =

@@ -1,7 +1,6 @@
-use Rattle.std.proofs.Common.{◌≡◌, FitsSigned, to_z, of_z, rules, refl, ap, ◌∙◌}
+use Rattle.std.proofs.Common.{FitsSigned, rules, refl, ap, ◌∙◌}
 use Rattle.std.specs.Int.{w64}
 use Rattle.std.proofs.lemmas.Int.{to_z-of_z}
-use Rattle.rule_file.specs.declared.rules.SpeedRule.{SpeedRule}
 use Rattle.online_repair.specs.Accepted.{greatest_window}
 use Rattle.online_repair.proofs.Begun.{keeps_none}
 use Rattle.online_repair.proofs.engine.Engine.new.Goals as goal

@@ -1,5 +1,5 @@
 use Rattle.std.proofs.Common.{false, ap, refl}
-use Rattle.std.specs.Prelude.{Result, Err}
+use Rattle.std.specs.Prelude.{Err}
 use Rattle.online_repair.specs.declared.fault.OnlineFault.{OnlineFault}
 use Rattle.online_repair.specs.declared.online.Stage.TheVariants.{Open, Refused, Ended}
 use Rattle.online_repair.proofs.Public.{can_go_on, feeds_after, kept_after_feed, own_stage, refusal_is, refused_not_ended, refused_stands, refuses_after, stage_at, stands_at, stays_open}

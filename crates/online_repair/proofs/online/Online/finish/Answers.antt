@@ -1,7 +1,7 @@
 use Rattle.std.proofs.Common.{false, ap, refl}
-use Rattle.std.specs.Prelude.{Result, Err}
+use Rattle.std.specs.Prelude.{Err}
 use Rattle.online_repair.specs.declared.fault.OnlineFault.{OnlineFault}
-use Rattle.online_repair.specs.declared.online.Stage.TheVariants.{Open, Refused, Ended}
+use Rattle.online_repair.specs.declared.online.Stage.TheVariants.{Refused, Ended}
 use Rattle.online_repair.proofs.Public.{can_go_on, ended_after, ends_after, kept_after_finish, own_stage, refusal_is, refused_stands, refuses_after, stage_at, stands_at}
 use Rattle.online_repair.proofs.online.Online.finish.Goals as goal
 

@@ -1,4 +1,4 @@
-use Rattle.std.proofs.Common.{Ok, Err, refl, ap, ◌∙◌}
+use Rattle.std.proofs.Common.{Ok, refl, ap, ◌∙◌}
 use Rattle.std.proofs.lemmas.Result.{err_from_is_err_and}
 use Rattle.online_repair.proofs.Own.{can_read, ok_is, own_event, own_may, own_none, own_refused, own_stops}
 use Rattle.online_repair.proofs.stream.Stream.feed_some.Goals as goal

@@ -1,20 +1,16 @@
-use Rattle.std.proofs.Common.{ℕ, [], take, refl, arith}
-use Rattle.std.proofs.lemmas.List.{length-take}
-use Rattle.record_cut.specs.Feeds.{GoesOn}
-use Rattle.record_cut.proofs.Standing.{same-sep, nothing-fed, fed-part}
+use Rattle.std.proofs.Common.{refl, arith}
+use Rattle.record_cut.proofs.Standing.{nothing-fed}
+use Rattle.record_cut.proofs.Passed.{part-goes_on}
 use Rattle.record_cut.proofs.cutter.Cutter.take_run.Goals as goal
+
+pub returns-in-Record-clause-goes_on : goal.returns-in-Record-clause-goes_on
+returns-in-Record-clause-goes_on c = λ sep before stands. part-goes_on sep before c.args.bytes.now c.min.result c.take_unquoted.new.self c.take_unquoted.result c.take_unquoted.ensures.within (c.take_unquoted.ensures.goes_on sep before stands)
+
+pub returns-in-Inside-Quoted-clause-goes_on : goal.returns-in-Inside-Quoted-clause-goes_on
+returns-in-Inside-Quoted-clause-goes_on c = λ sep before stands. part-goes_on sep before c.args.bytes.now c.min.result c.take_quoted.new.self c.take_quoted.result c.take_quoted.ensures.within (c.take_quoted.ensures.goes_on sep before stands)
 
 pub returns-in_default-clause-goes_on : goal.returns-in_default-clause-goes_on
 returns-in_default-clause-goes_on c = nothing-fed c.args.self.now
 
-pub returns-in_default-run_at-clause-goes_on : goal.returns-in_default-run_at-clause-goes_on
-returns-in_default-run_at-clause-goes_on c = nothing-fed c.args.self.now
-
-pub invariant_of-self-2-clause-short : goal.invariant_of-self-2-clause-short
-invariant_of-self-2-clause-short c = omega (arith, c.in-Some.ensures.within, c.min.ensures, length-take {A = ℕ})
-
-pub invariant_of-self-2-clause-small : goal.invariant_of-self-2-clause-small
-invariant_of-self-2-clause-small c = omega (arith, c.in-Some.ensures.within, c.extend.ensures.size, length-take {A = ℕ})
-
-pub returns-clause-goes_on : goal.returns-clause-goes_on
-returns-clause-goes_on c = λ sep before. same-sep c.args.self.now sep before (λ s. GoesOn s before (take c.in-Some.run'.len c.args.bytes.now) [] _) (fed-part c.args.self.now _ c.args.bytes.now before c.in-Some.run'.len _ _ c.in-Inside.place c.in-Some.run'.next (c.in-Some.ensures.runs) c.in_ok-extend.ensures.field (omega arith) c.in-Some.ensures.within c.in-Inside.is c.extend.ensures.fields refl refl refl)
+pub returns-in_default-2 : goal.returns-in_default-2
+returns-in_default-2 c = record { within = omega arith; goes_on = nothing-fed c.args.self.now; err = tt; refused = λ fault h. (h, refl) }

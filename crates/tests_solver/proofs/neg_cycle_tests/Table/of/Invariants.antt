@@ -2,7 +2,7 @@ use Rattle.std.proofs.Common.{◌≡◌, length}
 use Rattle.std.specs.List.{All}
 use Rattle.std.specs.Option.{IfSome}
 use Rattle.bound_graph.specs.Arcs.{IsArc}
-use Rattle.neg_cycle.proofs.tests.Table.of.Given as goal
+use Rattle.tests_solver.proofs.neg_cycle_tests.Table.of.Given as goal
 
 abbrev pub invariant-loop-row : goal.invariant-loop-row
 invariant-loop-row l = record {

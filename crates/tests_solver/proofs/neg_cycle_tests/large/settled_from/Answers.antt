@@ -1,7 +1,7 @@
 use Rattle.std.proofs.Common.{◌*◌, ◌^◌, ◌≤◌, ℤ, pos, length, unsigned_abs, replicate, arith}
 use Rattle.std.proofs.lemmas.Int.{ints}
 use Rattle.std.proofs.lemmas.List.Elements.{All-set, All-replicate}
-use Rattle.neg_cycle.proofs.tests.large.settled_from.Goals as goal
+use Rattle.tests_solver.proofs.neg_cycle_tests.large.settled_from.Goals as goal
 
 pub settle-outcome-requires-clause-starts : goal.settle-outcome-requires-clause-starts
 settle-outcome-requires-clause-starts g c =
