@@ -1,5 +1,5 @@
 -- The headline of `online`, from what was performed.
-use Rattle.std.proofs.Common.{◌≡◌, ◌⊎◌, inl, inr, ℕ, ◌≤◌, List, [], length, true, Option, Some, None, Ok, refl, sym, ap, subst, ◌∙◌}
+use Rattle.std.proofs.Common.{◌≡◌, ◌⊎◌, inl, inr, ℕ, ◌≤◌, List, [], length, true, Option, Some, None, refl, sym, ap, subst, ◌∙◌}
 use Rattle.online_repair.specs.Laws.{OutputsAreOne, RefusalsStay, RepairsCostLeast, RepairsKeepRates}
 use Rattle.online_repair.specs.NotOnline.{not_online}
 use Rattle.online_repair.specs.Output.{IsOutput, Output}

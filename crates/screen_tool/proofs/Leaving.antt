@@ -1,5 +1,5 @@
 -- What a run leaves, by its command, and what it performs.
-use Rattle.std.proofs.Common.{◌≡◌, ◌≢◌, ℕ, List, Option, Some, None, refl}
+use Rattle.std.proofs.Common.{◌≢◌, ℕ, List, Option, Some, None, refl}
 use Rattle.screen_steps.specs.Performance.{Performs}
 use Rattle.screen_words.specs.declared.command.Command.{Command}
 use Rattle.screen_words.specs.declared.command.Command.TheVariants.{Check, Global, Online, Report, Sample}

@@ -1,5 +1,5 @@
 -- What the output of a file is refused for, is a fault of its readings.
-use Rattle.std.proofs.Common.{◌≡◌, ℕ, suc, Bool, true, false, ◌&&◌, List, [], ◌∷◌, ◌++◌, length, Option, Some, None, IfSome, if◌then◌else◌, ap, subst, sym}
+use Rattle.std.proofs.Common.{◌≡◌, ℕ, suc, Bool, true, false, ◌&&◌, List, [], ◌∷◌, ◌++◌, length, Option, Some, None, IfSome, if◌then◌else◌, subst, sym}
 use Rattle.std.specs.Prelude.{is_none, option_map}
 use Rattle.std.specs.Option.{option_or}
 use Rattle.online_repair.specs.Accepted.{Accepted, accept, greatest_window, held, is_full, refusal, unless_refused, without_step}
