@@ -2,6 +2,8 @@
 #![tactic(auto)]
 
 #[cfg(test)]
+mod online_plain_tests;
+#[cfg(test)]
 mod online_repair_tests;
 #[cfg(test)]
 mod online_values_tests;

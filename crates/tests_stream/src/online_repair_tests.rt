@@ -3,7 +3,9 @@
 ghost use Rattle.std.specs.Prelude.{IfOk};
 ghost use Rattle.online_repair.specs.StandsFor.{HasEnded};
 
+use crate::order_window_tests::try_median;
 use online_repair::{Online, OnlineFault};
+use order_window::Key;
 use rule_file::{Rules, read_rules};
 use series_csv::{TableCause, TableFault};
 use std::alloc::Global;
@@ -224,7 +226,7 @@ fn feed_pieces(
 }
 
 /// Feeds a file in pieces of so many bytes, and tells its end.
-fn online_text(
+pub(crate) fn online_text(
     alloc: Global,
     rules: &Rules,
     file: &[u8],
@@ -289,6 +291,29 @@ fn a_sensor_has_a_window(rt: HostRuntime) -> Result<(), Fail> {
     online.feed(b"time,x\n0,10\n", &mut Vec::new(rt.alloc()))?;
     assert!(rt; online.window(1).is_none());
     assert!(rt; online.window(2).is_some());
+    Ok(())
+}
+
+/// A reading at so many seconds.
+fn key(value: i64, seconds: u32) -> Key {
+    Key {
+        value,
+        ticks: i64::from(seconds) * 1_000_000_000,
+    }
+}
+
+#[test]
+fn a_window_has_what_follows_the_last_row_that_is_ready(rt: HostRuntime) -> Result<(), Fail> {
+    let rules = read_rules(rt.alloc(), WINDOW_2.as_bytes())?;
+    let mut online = start(rt.alloc(), &rules)?;
+    let mut out = Vec::new(rt.alloc());
+    online.feed(b"time,x\n0,10\n1,11\n2,20\n3,13\n", &mut out)?;
+    assert_eq!(rt; out.as_slice(), b"time,x\n0,12\n".as_slice());
+    assert!(rt; online.window(1).is_none());
+    let window = online.window(2).ok_or("no window")?;
+    assert_eq!(rt; window.keys(), [key(11, 1), key(20, 2)].as_slice());
+    assert_eq!(rt; try_median(window, key(10, 0)), Some(12));
+    assert_eq!(rt; try_median(window, key(30, 0)), Some(18));
     Ok(())
 }
 

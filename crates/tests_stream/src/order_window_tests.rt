@@ -12,17 +12,17 @@ use std::test::Fail;
 use window_median::median_plain;
 
 /// Ticks of a second.
-const SECOND: i64 = 1_000_000_000;
+pub(crate) const SECOND: i64 = 1_000_000_000;
 
 /// What is tried: a room; two rates, in millionths for so many seconds; a window and the decimals.
 #[derive(Clone, Copy)]
-struct Case {
-    room: u32,
-    min: i64,
-    max: i64,
-    per: u32,
-    window: i64,
-    decimals: u32,
+pub(crate) struct Case {
+    pub(crate) room: u32,
+    pub(crate) min: i64,
+    pub(crate) max: i64,
+    pub(crate) per: u32,
+    pub(crate) window: i64,
+    pub(crate) decimals: u32,
 }
 
 /// Whether two keys may stand in one window.
@@ -83,7 +83,7 @@ fn try_insert(order: &mut OrderWindow, key: Key) -> bool {
 }
 
 /// The median of a reading that the keys follow.
-fn try_median(order: &OrderWindow, own: Key) -> Option<i64> {
+pub(crate) fn try_median(order: &OrderWindow, own: Key) -> Option<i64> {
     if all_after(order.span(), own, order.keys()) {
         Some(order.median(own))
     } else {
@@ -100,16 +100,26 @@ fn floor(millionths: i64, case: Case, dt: i64) -> Option<i64> {
     i64::try_from(change.checked_div_euclid(parts)?).ok()
 }
 
-/// The two candidates of a key.
-fn candidates_of(case: Case, own: Key, key: Key) -> Option<(i64, i64)> {
-    let dt = key.ticks.checked_sub(own.ticks)?;
+/// The least and the greatest whole step in so many ticks.
+pub(crate) fn steps_of(case: Case, dt: i64) -> Option<(i64, i64)> {
     let most = floor(case.max, case, dt)?;
     let least = floor(case.min.checked_neg()?, case, dt)?.checked_neg()?;
+    Some((least, most))
+}
+
+/// The two candidates of a key.
+fn candidates_of(case: Case, own: Key, key: Key) -> Option<(i64, i64)> {
+    let (least, most) = steps_of(case, key.ticks.checked_sub(own.ticks)?)?;
     Some((key.value.checked_sub(most)?, key.value.checked_sub(least)?))
 }
 
 /// The median of all candidates, one by one.
-fn plain(alloc: Global, case: Case, own: Key, keys: &[Key]) -> Result<Option<i64>, AllocError> {
+pub(crate) fn plain(
+    alloc: Global,
+    case: Case,
+    own: Key,
+    keys: &[Key],
+) -> Result<Option<i64>, AllocError> {
     let mut candidates = Vec::new(alloc);
     candidates.push(own.value)?;
     for key in keys {
