@@ -1,14 +1,12 @@
 -- From what reading the rules and repairing the readings leave to what the command performs.
-use Rattle.std.proofs.Common.{◌≡◌, ◌≢◌, inl, inr, ℕ, ◌+◌, ◌≤◌, List, [], length, Option, Some, None, Result, Ok, Err, refl, sym, ap, ◌∙◌, subst, arith}
+use Rattle.std.proofs.Common.{◌≡◌, ◌≢◌, inl, inr, ℕ, ◌+◌, ◌≤◌, List, [], length, Option, Some, None, Result, Ok, Err, refl, sym, ap, subst, arith}
 use Rattle.online_repair.specs.NotOnline.{not_online}
-use Rattle.online_repair.specs.declared.fault.OnlineFault.{OnlineFault}
-use Rattle.online_repair.specs.declared.fault.OnlineFault.TheVariants as online
 use Rattle.rule_file.specs.File.{ReadsFile}
 use Rattle.rule_file.specs.declared.fault.RuleFault.{RuleFault}
 use Rattle.rule_file.specs.declared.read.TheConstants.{LONGEST as longest_rules}
 use Rattle.rule_file.specs.declared.rules.Rules.{Rules}
 use Rattle.screen_io.specs.Faults.{Rose}
-use Rattle.screen_online.specs.Online.{AfterStart, AnswersOnline, PerformsOnline, Streams, ending_for}
+use Rattle.screen_online.specs.Online.{AfterStart, AnswersOnline, PerformsOnline, Streams}
 use Rattle.screen_online.specs.Steps.{IsBegun, IsGiven, Repairs}
 use Rattle.screen_steps.specs.Answer.{Extent, Whole, Unread, Answer}
 use Rattle.screen_steps.specs.Files.{rules_too_long, rules_refused}
@@ -16,17 +14,15 @@ use Rattle.screen_steps.specs.Performance.{IsRead, IsWritten, Performs, Stays, S
 use Rattle.screen_steps.specs.Step.{IsStep, IsStopped}
 use Rattle.screen_steps.proofs.AfterFile.{after_has}
 use Rattle.screen_steps.proofs.BothFiles.{begun_not_unread, whole_is_read, whole_not_unread}
-use Rattle.screen_words.specs.Faults.{online_ending, rules_ending}
+use Rattle.screen_words.specs.Faults.{rules_ending}
 use Rattle.screen_words.specs.declared.ends.Inputs.{Inputs}
 use Rattle.screen_words.specs.declared.ends.Outputs.{Outputs}
 use Rattle.screen_words.specs.declared.status.Ending.{Ending}
 use Rattle.screen_words.specs.declared.status.Ending.TheVariants.{Ended, ReadFault, WriteFault, Memory}
 use Rattle.screen_words.specs.declared.status.Outcome.{Outcome}
-use Rattle.screen_words.specs.declared.status.Outcome.TheVariants.{Done, NotOnline, ReadingsRefused, Usage}
+use Rattle.screen_words.specs.declared.status.Outcome.TheVariants.{Done}
 use Rattle.screen_words.specs.declared.step.StepFault.{StepFault}
 use Rattle.screen_words.specs.declared.step.StepFault.TheVariants as fault
-use Rattle.series_rows.specs.Faults.{of_the_file}
-use Rattle.series_rows.specs.declared.fault.TableCause.TheVariants.{FileTooLong}
 
 -- every answer after accepted rules reads them whole, reads no certificate and writes none
 pub record IsOfStream (answer : Answer) : Type 0 where
@@ -159,44 +155,3 @@ module _ {S K : Type 0} (left : S → Option (List ℕ)) (source_faults : S → 
   repairs_perform ins rules readings outs out found (Err Memory) q (inl g) = inl (inr (unbegun ins rules readings found q g.0), (refl, g.1))
   repairs_perform ins rules readings outs out found (Err Memory) q (inr g) =
       inr (found, g.came, streams ins rules readings outs out found g.came q g.begun, g.unfailed, g.sink_unfailed, (g.ended, g.at_end, g.part))
-
--- ---- no ending is that of words that ask for no command
-
-pub rules_no_usage : (given : StepFault RuleFault) → rules_ending given ≢ Ended Usage
-rules_no_usage fault.TooLong e = cc
-rules_no_usage (fault.Refused f) e = cc
-rules_no_usage fault.Failed e = cc
-rules_no_usage fault.Memory e = cc
-
-online_no_usage : (refusal : OnlineFault) → online_ending refusal ≢ Ended Usage
-online_no_usage (online.NotOnline rule) e = cc
-online_no_usage (online.Table refusal) e = cc
-online_no_usage (online.WindowFull row) e = cc
-online_no_usage (online.NoWholeStep row col) e = cc
-online_no_usage (online.LeavesRange row col) e = cc
-online_no_usage online.Memory e = cc
-
-end_no_usage : (refusal : Option OnlineFault) → ending_for refusal ≢ Ended Usage
-end_no_usage None e = cc
-end_no_usage (Some refusal) e = online_no_usage refusal e
-
-stream_no_usage : (rules : Rules) (readings : List ℕ) (start : Option ℕ) (answer : Answer) → AfterStart rules readings start answer → answer.outcome ≢ Usage
-stream_no_usage rules readings (Some rule) answer p e =
-    let f : NotOnline rule ≡ Usage = sym (ap (λ (a : Answer). a.outcome) p) ∙ e in cc
-stream_no_usage rules readings None answer (inl p) e = end_no_usage p.out.fault (p.ending ∙ ap Ended (sym (ap (λ (a : Answer). a.outcome) p.answer_is) ∙ e))
-stream_no_usage rules readings None answer (inr (inl p)) e = online_no_usage p.fault (p.ending ∙ ap Ended (sym (ap (λ (a : Answer). a.outcome) p.answer_is) ∙ e))
-stream_no_usage rules readings None answer (inr (inr p)) e =
-    let f : ReadingsRefused (of_the_file FileTooLong) ≡ Usage = sym (ap (λ (a : Answer). a.outcome) p.answer_is) ∙ e in cc
-
-same_outcome : (one other : Outcome) → Ended one ≡ Ended other → one ≡ other
-same_outcome one other e = cc
-
-module _ {S K : Type 0} (left : S → Option (List ℕ)) (source_faults : S → ℕ) (held : K → Option (List ℕ)) (sink_faults : K → ℕ) where
-  pub repairs_no_usage : (rules : Rules) (source source_now : S) (sink sink_now : K) (result : Result (Unit {0}) Ending)
-      → Repairs left source_faults held sink_faults rules source source_now sink sink_now result → ending_of result ≢ Ended Usage
-  repairs_no_usage rules source source_now sink sink_now (Ok done) g e = cc
-  repairs_no_usage rules source source_now sink sink_now (Err (Ended outcome)) g e =
-      stream_no_usage rules g.came (not_online rules) g.answer g.answers (g.outcome_is ∙ same_outcome outcome Usage e)
-  repairs_no_usage rules source source_now sink sink_now (Err ReadFault) g e = cc
-  repairs_no_usage rules source source_now sink sink_now (Err WriteFault) g e = cc
-  repairs_no_usage rules source source_now sink sink_now (Err Memory) g e = cc
