@@ -1,46 +1,15 @@
 -- What is left once a piece, or the end, was given to the repair and its text was written.
-use Rattle.std.proofs.Common.{◌≡◌, ◌≢◌, ℕ, Bool, List, [], Option, Some, Result, Ok, Err, refl, subst}
+use Rattle.std.proofs.Common.{◌≡◌, ℕ, Bool, List, [], Option, Result, Ok, Err, subst}
 use Rattle.online_repair.specs.Feeds.{Feeds}
 use Rattle.online_repair.specs.StandsFor.{OnlineView}
 use Rattle.online_repair.specs.declared.fault.OnlineFault.{OnlineFault}
 use Rattle.online_repair.specs.declared.fault.OnlineFault.TheVariants as fault
 use Rattle.rule_file.specs.declared.rules.Rules.{Rules}
-use Rattle.screen_io.specs.Faults.{Rose}
-use Rattle.screen_io.specs.Sink.{GainsPrefix}
-use Rattle.screen_steps.specs.Performance.{IsWritten}
 use Rattle.screen_online.specs.Steps.{Hands, HandsOn}
-use Rattle.screen_words.specs.Faults.{online_ending}
 use Rattle.screen_words.specs.declared.status.Ending.{Ending}
 use Rattle.screen_words.specs.declared.status.Ending.TheVariants.{Ended, ReadFault, WriteFault, Memory}
 
-err_is : {A : Type 0} (one other : OnlineFault) → ◌≡◌ {A = Result A OnlineFault} (Err one) (Err other) → one ≡ other
-err_is one other e = cc
-
-ok_not_err : (given : OnlineFault) → ◌≡◌ {A = Result (Unit {0}) OnlineFault} (Ok tt) (Err given) → ⊥
-ok_not_err given e = cc
-
 module _ {K : Type 0} (held : K → Option (List ℕ)) (sink_faults : K → ℕ) where
-  -- a refusal other than want of memory, whose text is written
-  pub refused_on : (given : OnlineFault) (text : List ℕ) (sink now : K) → given ≢ fault.Memory
-      → IsWritten held sink_faults (Some text) sink now → HandsOn held sink_faults (Err given) text sink now (Err (online_ending given))
-  refused_on (fault.NotOnline rule) text sink now other written = (fault.NotOnline rule, refl, refl, written)
-  refused_on (fault.Table refusal) text sink now other written = (fault.Table refusal, refl, refl, written)
-  refused_on (fault.WindowFull row) text sink now other written = (fault.WindowFull row, refl, refl, written)
-  refused_on (fault.NoWholeStep row col) text sink now other written = (fault.NoWholeStep row col, refl, refl, written)
-  refused_on (fault.LeavesRange row col) text sink now other written = (fault.LeavesRange row col, refl, refl, written)
-  refused_on fault.Memory text sink now other written = absurd (other refl)
-
-  -- a write failed
-  pub cut_on : (fed : Result (Unit {0}) OnlineFault) (text : List ℕ) (sink now : K) → fed ≢ Err fault.Memory
-      → GainsPrefix (held sink) text (held now) → Rose (sink_faults sink) (sink_faults now) → HandsOn held sink_faults fed text sink now (Err WriteFault)
-  cut_on fed text sink now other part rose = (other, (part, rose))
-
-  pub other_err : (given : OnlineFault) → given ≢ fault.Memory → ◌≢◌ {A = Result (Unit {0}) OnlineFault} (Err given) (Err fault.Memory)
-  other_err given other e = other (err_is {A = Unit {0}} given fault.Memory e)
-
-  pub ok_other : ◌≢◌ {A = Result (Unit {0}) OnlineFault} (Ok tt) (Err fault.Memory)
-  ok_other e = ok_not_err fault.Memory e
-
   -- the repair answered so, and what it answered was handed on
   answered : (rules : Rules) (ended : Bool) (came piece : List ℕ) (fed given : Result (Unit {0}) OnlineFault) (online : OnlineView) (text : List ℕ)
       → fed ≡ given → Feeds rules ended came piece fed online [] text → Feeds rules ended came piece given online [] text

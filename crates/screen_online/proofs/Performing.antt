@@ -1,14 +1,12 @@
 -- From what reading the rules and repairing the readings leave to what the command performs.
-use Rattle.std.proofs.Common.{◌≡◌, ◌≢◌, inl, inr, ℕ, ◌+◌, ◌≤◌, List, [], length, Option, Some, None, Result, Ok, Err, refl, sym, ap, ◌∙◌, subst, arith}
+use Rattle.std.proofs.Common.{◌≡◌, ◌≢◌, inl, inr, ℕ, ◌+◌, ◌≤◌, List, [], length, Option, Some, None, Result, Ok, Err, refl, sym, ap, subst, arith}
 use Rattle.online_repair.specs.NotOnline.{not_online}
-use Rattle.online_repair.specs.declared.fault.OnlineFault.{OnlineFault}
-use Rattle.online_repair.specs.declared.fault.OnlineFault.TheVariants as online
 use Rattle.rule_file.specs.File.{ReadsFile}
 use Rattle.rule_file.specs.declared.fault.RuleFault.{RuleFault}
 use Rattle.rule_file.specs.declared.read.TheConstants.{LONGEST as longest_rules}
 use Rattle.rule_file.specs.declared.rules.Rules.{Rules}
 use Rattle.screen_io.specs.Faults.{Rose}
-use Rattle.screen_online.specs.Online.{AfterStart, AnswersOnline, PerformsOnline, Streams, ending_for}
+use Rattle.screen_online.specs.Online.{AfterStart, AnswersOnline, PerformsOnline, Streams}
 use Rattle.screen_online.specs.Steps.{IsBegun, IsGiven, Repairs}
 use Rattle.screen_steps.specs.Answer.{Extent, Whole, Unread, Answer}
 use Rattle.screen_steps.specs.Files.{rules_too_long, rules_refused}
@@ -16,17 +14,15 @@ use Rattle.screen_steps.specs.Performance.{IsRead, IsWritten, Performs, Stays, S
 use Rattle.screen_steps.specs.Step.{IsStep, IsStopped}
 use Rattle.screen_steps.proofs.AfterFile.{after_has}
 use Rattle.screen_steps.proofs.BothFiles.{begun_not_unread, whole_is_read, whole_not_unread}
-use Rattle.screen_words.specs.Faults.{online_ending, rules_ending}
+use Rattle.screen_words.specs.Faults.{rules_ending}
 use Rattle.screen_words.specs.declared.ends.Inputs.{Inputs}
 use Rattle.screen_words.specs.declared.ends.Outputs.{Outputs}
 use Rattle.screen_words.specs.declared.status.Ending.{Ending}
 use Rattle.screen_words.specs.declared.status.Ending.TheVariants.{Ended, ReadFault, WriteFault, Memory}
 use Rattle.screen_words.specs.declared.status.Outcome.{Outcome}
-use Rattle.screen_words.specs.declared.status.Outcome.TheVariants.{Done, NotOnline, ReadingsRefused, Usage}
+use Rattle.screen_words.specs.declared.status.Outcome.TheVariants.{Done}
 use Rattle.screen_words.specs.declared.step.StepFault.{StepFault}
 use Rattle.screen_words.specs.declared.step.StepFault.TheVariants as fault
-use Rattle.series_rows.specs.Faults.{of_the_file}
-use Rattle.series_rows.specs.declared.fault.TableCause.TheVariants.{FileTooLong}
 
 -- every answer after accepted rules reads them whole, reads no certificate and writes none
 pub record IsOfStream (answer : Answer) : Type 0 where
@@ -158,6 +154,7 @@ module _ {S K : Type 0} (left : S → Option (List ℕ)) (source_faults : S → 
   }
   repairs_perform ins rules readings outs out found (Err Memory) q (inl g) = inl (inr (unbegun ins rules readings found q g.0), (refl, g.1))
   repairs_perform ins rules readings outs out found (Err Memory) q (inr g) =
+<<<<<<< HEAD
       inr (record {
         rules = found;
         came = g.came;
@@ -215,3 +212,6 @@ module _ {S K : Type 0} (left : S → Option (List ℕ)) (source_faults : S → 
   repairs_no_usage rules source source_now sink sink_now (Err ReadFault) g e = cc
   repairs_no_usage rules source source_now sink sink_now (Err WriteFault) g e = cc
   repairs_no_usage rules source source_now sink sink_now (Err Memory) g e = cc
+=======
+      inr (found, g.came, streams ins rules readings outs out found g.came q g.begun, g.unfailed, g.sink_unfailed, (g.ended, g.at_end, g.part))
+>>>>>>> 9cff8305adf4dc9fc1297d484080a78829be0565
