@@ -154,7 +154,6 @@ module _ {S K : Type 0} (left : S → Option (List ℕ)) (source_faults : S → 
   }
   repairs_perform ins rules readings outs out found (Err Memory) q (inl g) = inl (inr (unbegun ins rules readings found q g.0), (refl, g.1))
   repairs_perform ins rules readings outs out found (Err Memory) q (inr g) =
-<<<<<<< HEAD
       inr (record {
         rules = found;
         came = g.came;
@@ -171,47 +170,3 @@ module _ {S K : Type 0} (left : S → Option (List ℕ)) (source_faults : S → 
         at_end = g.at_end;
         begins = g.part;
       })
-
--- ---- no ending is that of words that ask for no command
-
-pub rules_no_usage : (given : StepFault RuleFault) → rules_ending given ≢ Ended Usage
-rules_no_usage fault.TooLong e = cc
-rules_no_usage (fault.Refused f) e = cc
-rules_no_usage fault.Failed e = cc
-rules_no_usage fault.Memory e = cc
-
-online_no_usage : (refusal : OnlineFault) → online_ending refusal ≢ Ended Usage
-online_no_usage (online.NotOnline rule) e = cc
-online_no_usage (online.Table refusal) e = cc
-online_no_usage (online.WindowFull row) e = cc
-online_no_usage (online.NoWholeStep row col) e = cc
-online_no_usage (online.LeavesRange row col) e = cc
-online_no_usage online.Memory e = cc
-
-end_no_usage : (refusal : Option OnlineFault) → ending_for refusal ≢ Ended Usage
-end_no_usage None e = cc
-end_no_usage (Some refusal) e = online_no_usage refusal e
-
-stream_no_usage : (rules : Rules) (readings : List ℕ) (start : Option ℕ) (answer : Answer) → AfterStart rules readings start answer → answer.outcome ≢ Usage
-stream_no_usage rules readings (Some rule) answer p e =
-    let f : NotOnline rule ≡ Usage = sym (ap (λ (a : Answer). a.outcome) p) ∙ e in cc
-stream_no_usage rules readings None answer (inl p) e = end_no_usage p.out.fault (p.ending ∙ ap Ended (sym (ap (λ (a : Answer). a.outcome) p.answer_is) ∙ e))
-stream_no_usage rules readings None answer (inr (inl p)) e = online_no_usage p.fault (p.ending ∙ ap Ended (sym (ap (λ (a : Answer). a.outcome) p.answer_is) ∙ e))
-stream_no_usage rules readings None answer (inr (inr p)) e =
-    let f : ReadingsRefused (of_the_file FileTooLong) ≡ Usage = sym (ap (λ (a : Answer). a.outcome) p.answer_is) ∙ e in cc
-
-same_outcome : (one other : Outcome) → Ended one ≡ Ended other → one ≡ other
-same_outcome one other e = cc
-
-module _ {S K : Type 0} (left : S → Option (List ℕ)) (source_faults : S → ℕ) (held : K → Option (List ℕ)) (sink_faults : K → ℕ) where
-  pub repairs_no_usage : (rules : Rules) (source source_now : S) (sink sink_now : K) (result : Result (Unit {0}) Ending)
-      → Repairs left source_faults held sink_faults rules source source_now sink sink_now result → ending_of result ≢ Ended Usage
-  repairs_no_usage rules source source_now sink sink_now (Ok done) g e = cc
-  repairs_no_usage rules source source_now sink sink_now (Err (Ended outcome)) g e =
-      stream_no_usage rules g.came (not_online rules) g.answer g.answers (g.outcome_is ∙ same_outcome outcome Usage e)
-  repairs_no_usage rules source source_now sink sink_now (Err ReadFault) g e = cc
-  repairs_no_usage rules source source_now sink sink_now (Err WriteFault) g e = cc
-  repairs_no_usage rules source source_now sink sink_now (Err Memory) g e = cc
-=======
-      inr (found, g.came, streams ins rules readings outs out found g.came q g.begun, g.unfailed, g.sink_unfailed, (g.ended, g.at_end, g.part))
->>>>>>> 9cff8305adf4dc9fc1297d484080a78829be0565
