@@ -55,7 +55,23 @@ module _ {S K : Type 0} (left : S → Option (List ℕ)) (source_faults : S → 
     failed = p.failed;
   }
   online_noted ins now outs outs_now note Memory (inl p) = inl p
-  online_noted ins now outs outs_now note Memory (inr p) = inr (p.0, p.1, streams_noted ins now outs outs_now note p.0 p.1 p.2, p.3, p.4, p.5)
+  online_noted ins now outs outs_now note Memory (inr p) =
+      inr (record {
+        rules = p.rules;
+        came = p.came;
+        streams = streams_noted ins now outs outs_now note p.rules p.came p.streams;
+        unfailed = p.unfailed;
+        earlier = p.earlier;
+        last = p.last;
+        came_are = p.came_are;
+        piece = p.piece;
+        out = p.out;
+        is_output = p.is_output;
+        written = p.written;
+        ended = p.ended;
+        at_end = p.at_end;
+        begins = p.begins;
+      })
 
   pub leaves_noted : (command : Option Command) (ins now : Inputs S) (outs outs_now : Outputs K) (note : K) (how : Ending)
       → Leaves left source_faults held sink_faults command ins now outs outs_now how → Leaves left source_faults held sink_faults command ins now outs (record outs_now { note = note }) how
@@ -81,7 +97,7 @@ module _ {S K : Type 0} (left : S → Option (List ℕ)) (source_faults : S → 
   certs_stay ins now outs outs_now WriteFault p = (p.streams.cert_read, p.streams.cert_written)
   certs_stay ins now outs outs_now Memory (inl (inl same, sinks)) = (ap (λ (i : Inputs S). i.cert) same, sinks.0)
   certs_stay ins now outs outs_now Memory (inl (inr p, sinks)) = (p.cert, sinks.0)
-  certs_stay ins now outs outs_now Memory (inr p) = (p.2.cert_read, p.2.cert_written)
+  certs_stay ins now outs outs_now Memory (inr p) = (p.streams.cert_read, p.streams.cert_written)
 
   pub online_unused : (ins now : Inputs S) (outs outs_now : Outputs K) (how : Ending) → PerformsOnline left source_faults held sink_faults ins now outs outs_now how
       → LeavesUnused (roles_of (Some Online)) ins now outs outs_now
