@@ -15,3 +15,4 @@ pub mod SampleLaws
 pub mod SampleSteps
 pub mod Steps
 pub mod Written
+pub mod Summed

@@ -35,7 +35,7 @@ module _ (Counts : Problem → Found → Type 0) where
   pub sample_any : (rows seed : ℕ) (answer : Answer) → AnswersSampleBy Counts rows seed answer → AnswersSample rows seed answer
   sample_any rows seed answer p = (p.0, (p.1.0, p.1.1, rules_any rows seed p.1.0 p.0 p.1.2), p.2)
 
-  -- ---- no certificate is written, and a success has a text
+  -- ---- no certificate is written
 
   summed_cert : (rows : ℕ) (table : TableView) (outcome_found : Found) → (summary_of rows table outcome_found).cert ≡ None
   summed_cert rows table (found.Repaired series flow total paid changes) = refl
@@ -52,25 +52,6 @@ module _ (Counts : Problem → Found → Type 0) where
 
   pub sample_cert : (rows seed : ℕ) (answer : Answer) → AnswersSampleBy Counts rows seed answer → answer.cert ≡ None
   sample_cert rows seed answer p = ap (λ (a : Answer). a.cert) p.2 ∙ rules_cert rows seed p.1.0 p.0 p.1.2
-
-  abbrev HasText : Answer → Type 0
-  HasText answer = answer.outcome ≡ outcome.Done → (text : List ℕ) × (answer.out ≡ Some text)
-
-  summed_text : (rows : ℕ) (table : TableView) (outcome_found : Found) → HasText (summary_of rows table outcome_found)
-  summed_text rows table (found.Repaired series flow total paid changes) = λ done. (summary_text rows (changed (values table) series) total, refl)
-  summed_text rows table (found.NoSeries cycle) = λ done. absurd (cc done)
-
-  readings_text_of : (rows : ℕ) (rules : Rules) (table : Result TableView TableFault) (answer : Answer) → AfterSampleReadings Counts rows rules table answer → HasText answer
-  readings_text_of rows rules (Ok table) answer (inl p) = subst HasText (sym p.1) (λ done. absurd (cc done))
-  readings_text_of rows rules (Ok table) answer (inr p) = subst HasText (sym p.1.3) (summed_text rows table p.1.0)
-  readings_text_of rows rules (Err fault) answer p = subst HasText (sym p) (λ done. absurd (cc done))
-
-  rules_text_of : (rows seed : ℕ) (rules : Result Rules RuleFault) (answer : Answer) → AfterSampleRules Counts rows seed rules answer → HasText answer
-  rules_text_of rows seed (Ok rules) answer p = readings_text_of rows rules p.0 answer p.2
-  rules_text_of rows seed (Err fault) answer p = subst HasText (sym p) (λ done. absurd (cc done))
-
-  pub sample_text : (rows seed : ℕ) (answer : Answer) → AnswersSampleBy Counts rows seed answer → HasText answer
-  sample_text rows seed answer p = subst HasText (sym p.2) (rules_text_of rows seed p.1.0 p.0 p.1.2)
 
 -- ---- a part of all answers is one only, where it is so for what was found
 

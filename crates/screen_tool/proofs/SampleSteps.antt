@@ -8,7 +8,7 @@ use Rattle.bound_maker.specs.declared.maker.TheConstants.{MOST_BOUNDS}
 use Rattle.cert_check.specs.declared.accepted.Accepted.{Accepted}
 use Rattle.global_repair.specs.declared.fault.RepairFault.{RepairFault}
 use Rattle.global_repair.specs.declared.fault.RepairFault.TheVariants as repair
-use Rattle.least_cost.specs.Answer.{Answers as AnswersProblem}
+use Rattle.least_cost.specs.Answer.{Answers as AnswersProblem, CountsChanges}
 use Rattle.least_cost.specs.declared.outcome.Outcome.{Outcome as Found}
 use Rattle.rule_file.specs.File.{ReadsFile}
 use Rattle.rule_file.specs.declared.fault.RuleFault.{RuleFault}
@@ -33,11 +33,12 @@ use Rattle.screen_tool.specs.Answers.{Answers, AnswersBy}
 use Rattle.screen_steps.specs.Files.{readings_refused, rules_refused, too_many_bounds}
 use Rattle.screen_words.specs.Command.{command_of, is_word, number_of, sample_of}
 use Rattle.screen_steps.specs.Performance.{AreRead, Performs}
-use Rattle.screen_tool.specs.Sample.{AnswersSampleBy, HasLimits, WritesSummary, summary_of, unread}
+use Rattle.screen_tool.specs.Sample.{AnswersSampleBy, HasLimits, WritesSummary, summary_of, summary_text, unread}
 use Rattle.screen_steps.specs.Step.{Comes, Ends, IsFound, IsReplyOf, Replies}
 use Rattle.screen_words.specs.Faults.{readings_ending, repair_ending, rules_ending}
 use Rattle.screen_tool.proofs.Decided.{gained}
-use Rattle.screen_tool.proofs.SampleLaws.{sample_any, sample_text}
+use Rattle.screen_tool.proofs.SampleLaws.{sample_any}
+use Rattle.screen_tool.proofs.Summed.{sample_sums}
 
 module _ (Counts : Problem → Found → Type 0) (rows seed : ℕ) where
   abbrev SampleComes : Result Reply Ending → Type 0
@@ -110,18 +111,17 @@ module _ {S : Type 0} (left : S → Option (List ℕ)) (source_faults : S → �
   sample_comes ins (Err ending.Memory) c = inl refl
 
 -- a success wrote the text that sums the repair up
-pub writes_summary : {S K : Type 0} (left : S → Option (List ℕ)) (source_faults : S → ℕ) (held : K → Option (List ℕ)) (sink_faults : K → ℕ) (Counts : Problem → Found → Type 0) (rows seed : ℕ)
-    (ins now : Inputs S) (outs outs_now : Outputs K) → Performs left source_faults held sink_faults (λ bytes. AnswersSampleBy Counts rows seed) ins now outs outs_now (ending.Ended Done)
-    → WritesSummary held Counts rows seed outs outs_now
-writes_summary left source_faults held sink_faults Counts rows seed ins now outs outs_now p =
-    let text = sample_text Counts rows seed p.0 p.2.1 p.1 in
+pub writes_summary : {S K : Type 0} (left : S → Option (List ℕ)) (source_faults : S → ℕ) (held : K → Option (List ℕ)) (sink_faults : K → ℕ) (most : ℕ → ℕ → ℕ → ℕ → Option ℕ) (last rows seed : ℕ)
+    (ins now : Inputs S) (outs outs_now : Outputs K) → Performs left source_faults held sink_faults (λ bytes. AnswersSampleBy (λ problem. CountsChanges problem most last) rows seed) ins now outs outs_now (ending.Ended Done)
+    → WritesSummary held most last rows seed outs outs_now
+writes_summary left source_faults held sink_faults most last rows seed ins now outs outs_now p =
+    let sums = sample_sums most last rows seed p.0 p.2.1 p.1 in
     record {
       answer = p.0;
       answers = p.2.1;
       done = p.1;
-      text = text.0;
-      text_is = text.1;
-      out = gained held sink_faults p.0.out text.0 outs.out outs_now.out text.1 p.3.1;
+      sums = sums;
+      out = gained held sink_faults p.0.out (summary_text rows sums.changed sums.total) outs.out outs_now.out sums.text_is p.3.1;
     }
 
 -- ---- the numbers that the words give are within their limits

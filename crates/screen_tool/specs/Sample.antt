@@ -1,9 +1,9 @@
 -- To be believed: what the command `sample` answers.
-use Rattle.std.specs.Prelude.{◌≡◌, ◌≢◌, ℕ, ◌+◌, ◌≤◌, ℤ, List, [], ◌∷◌, ◌++◌, codes, decimal, if◌then◌else◌, Option, Some, None, Result, Ok, Err}
+use Rattle.std.specs.Prelude.{◌≡◌, ◌≢◌, ℕ, ◌+◌, ◌≤◌, ℤ, pos, ◌<ℤ◌, List, [], ◌∷◌, ◌++◌, codes, decimal, if◌then◌else◌, Option, Some, None, Result, Ok, Err}
 use Rattle.std.specs.Fmt.{signed_decimal}
 use Rattle.std.specs.Ordering.{int_eq}
 use Rattle.bound_maker.specs.Costs.{made_problem, whole_problem}
-use Rattle.least_cost.specs.Answer.{Answers as IsFound}
+use Rattle.least_cost.specs.Answer.{Answers as IsFound, CountsChanges}
 use Rattle.least_cost.specs.declared.outcome.Outcome.{Outcome as Found}
 use Rattle.least_cost.specs.declared.outcome.Outcome.TheVariants as found_as
 use Rattle.rule_file.specs.File.{ReadsFile}
@@ -93,14 +93,20 @@ HasLimits (Some Online) = Unit {0}
 HasLimits (Some Report) = Unit {0}
 HasLimits None = Unit {0}
 
--- The sample is repaired, and the output gained the text that sums this repair up.
-pub record WritesSummary {K : Type 0} (held : K → Option (List ℕ)) (Counts : Problem → Found → Type 0) (rows seed : ℕ) (outs outs_now : Outputs K) : Type 0 where
+-- The answer sums up so many changed readings and this total. Where the total is above 0 the solver has counted a change.
+pub record Sums (last rows : ℕ) (answer : Answer) : Type 0 where
+  pub changed : ℕ
+  pub total : ℤ
+  pub text_is : answer.out ≡ Some (summary_text rows changed total)
+  pub counted : pos 0 <ℤ total → 1 ≤ last
+
+-- The sample is repaired, for which the solver counted its changes, and the output gained the text that sums this repair up.
+pub record WritesSummary {K : Type 0} (held : K → Option (List ℕ)) (most : ℕ → ℕ → ℕ → ℕ → Option ℕ) (last rows seed : ℕ) (outs outs_now : Outputs K) : Type 0 where
   pub answer : Answer
-  pub answers : AnswersSampleBy Counts rows seed answer
+  pub answers : AnswersSampleBy (λ problem. CountsChanges problem most last) rows seed answer
   pub done : answer.outcome ≡ Done
-  pub text : List ℕ
-  pub text_is : answer.out ≡ Some text
-  pub out : Gains (held outs.out) text (held outs_now.out)
+  pub sums : Sums last rows answer
+  pub out : Gains (held outs.out) (summary_text rows sums.changed sums.total) (held outs_now.out)
 
 -- The texts of the sample spell these rules and this table, of which no more than 4,000,000 bounds are made.
 pub record IsSample (rows seed : ℕ) (rules : Rules) (table : TableView) : Type 0 where

@@ -85,7 +85,7 @@ pub fn run<S: Source, K: Sink, V: Solver>(
     ensures report { command_of (texts words.now) ≡ Some Command.Report →
         HeadlineCheck S.left S.faults K.held K.faults report_text ins.old ins.new outs.old outs.new result }
     ensures sample { (rows seed : ℕ) → command_of (texts words.now) ≡ Some (Command.Sample rows seed) → result ≡ Status.Done →
-        WritesSummary K.held (λ problem. CountsChanges problem (V.most solver.new) (V.last solver.new)) rows seed outs.old outs.new }
+        WritesSummary K.held (V.most solver.new) (V.last solver.new) rows seed outs.old outs.new }
     ensures sample_status { (rows seed : ℕ) → command_of (texts words.now) ≡ Some (Command.Sample rows seed) →
         DecidesSample K.faults rows seed outs.old outs.new result }
 {

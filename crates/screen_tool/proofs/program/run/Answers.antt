@@ -115,7 +115,7 @@ returns-clause-sample g c = λ rows seed is done.
     let asked : c.command_from.result ≡ Some (Sample rows seed) = c.command_from.ensures ∙ is in
     let ended = is_done c.ending_of-ending.result (sym c.status.ensures ∙ done) in
     writes_summary g.S.Source.left g.S.Source.faults g.K.Sink.held g.K.Sink.faults
-    (λ problem. CountsChanges problem (g.V.Solver.most c.ending_of-ending.new.solver) (g.V.Solver.last c.ending_of-ending.new.solver)) rows seed c.args.ins.now c.ending_of-ending.new.ins c.args.outs.now
+    (g.V.Solver.most c.ending_of-ending.new.solver) (g.V.Solver.last c.ending_of-ending.new.solver) rows seed c.args.ins.now c.ending_of-ending.new.ins c.args.outs.now
     (record c.ending_of-ending.new.outs { note = c.write_all_of.new.sink })
     (subst
     (λ (command : Option Command). Performs g.S.Source.left g.S.Source.faults g.K.Sink.held g.K.Sink.faults (AnswersBy (λ problem. CountsChanges problem (g.V.Solver.most c.ending_of-ending.new.solver) (g.V.Solver.last c.ending_of-ending.new.solver)) IsTrueClaim command) c.args.ins.now c.ending_of-ending.new.ins c.args.outs.now (record c.ending_of-ending.new.outs { note = c.write_all_of.new.sink }) (ending.Ended outcome.Done))
