@@ -93,7 +93,7 @@ fn the_greatest_sizes(rt: HostRuntime) {
 /// first beyond them, and the greatest size that there may be.
 #[test]
 fn numbers_as_texts(rt: HostRuntime) -> Result<(), Fail> {
-    let rows: [(i128, &[u8]); 7] = [
+    let rows: [(i128, &[u8]); 8] = [
         (0, b" 0 0.0 0.00 0.000 0.0000 0.00000 0.000000"),
         (7, b" 7 0.7 0.07 0.007 0.0007 0.00007 0.000007"),
         (-50, b" -50 -5.0 -0.50 -0.050 -0.0050 -0.00050 -0.000050"),

@@ -1,6 +1,6 @@
 use Rattle.screen_model.specs.Obeys.{HasEnds}
 use Rattle.words.proofs.Lists.{all_push}
-use Rattle.bound_graph.proofs.Members.{contains_at}
+use Rattle.tests_solver.proofs.Members.{contains_at}
 use Rattle.tests_solver.proofs.bound_graph_tests.ranges.Goals as goal
 
 pub loop-place-preserved : goal.loop-place-preserved

@@ -3,7 +3,7 @@ use Rattle.std.proofs.lemmas.List.{length_push}
 use Rattle.screen_model.specs.declared.place.Place.{Place}
 use Rattle.screen_model.specs.Obeys.{HasEnds}
 use Rattle.words.proofs.Lists.{all_push}
-use Rattle.bound_graph.proofs.Members.{contains_at}
+use Rattle.tests_solver.proofs.Members.{contains_at}
 use Rattle.tests_solver.proofs.bound_graph_tests.ring.Goals as goal
 
 pub loop-i-preserved : goal.loop-i-preserved
