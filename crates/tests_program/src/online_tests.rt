@@ -1,5 +1,5 @@
 //! Whole runs of the command `online`, over sources and sinks in memory.
-use crate::run_tests::{sink, source, words};
+use crate::run_tests::{front, sink, source, words};
 use path_flow::PathSolver;
 use screen_io::{MemSink, MemSource, Source};
 use screen_tool::{EndUse, Inputs, Outputs, Status, roles, run};
@@ -50,6 +50,16 @@ fn online(
     readings: MemSource,
     out: MemSink,
 ) -> Result<Ran, AllocError> {
+    online_noted(alloc, rules, readings, out, sink(alloc, &[])?)
+}
+
+fn online_noted(
+    alloc: Global,
+    rules: MemSource,
+    readings: MemSource,
+    out: MemSink,
+    note: MemSink,
+) -> Result<Ran, AllocError> {
     let mut ins = Inputs {
         rules,
         readings,
@@ -58,7 +68,7 @@ fn online(
     let mut outs = Outputs {
         out,
         cert: sink(alloc, &[])?,
-        note: sink(alloc, &[])?,
+        note,
     };
     let words = words(alloc, &["online", "r"])?;
     let mut solver = PathSolver::new(alloc);
@@ -149,13 +159,50 @@ fn a_read_that_fails_keeps_what_was_ready(rt: HostRuntime) -> Result<(), Fail> {
         )?;
         ran.assert_is(&rt, Status::ReadFault, written, NOT_READ);
     }
-    let ran = online(
-        alloc,
-        source(alloc, RULES.as_bytes(), &[2])?,
-        source(alloc, READINGS.as_bytes(), &[])?,
-        sink(alloc, &[])?,
-    )?;
-    ran.assert_is(&rt, Status::ReadFault, "", NOT_READ);
+    Ok(())
+}
+
+/// The rules come in six pieces, and none in the seventh call. The eighth is never made.
+#[test]
+fn rules_that_fail_write_nothing(rt: HostRuntime) -> Result<(), Fail> {
+    let alloc = rt.alloc();
+    for (call, status, written, note) in [
+        (1, Status::ReadFault, "", NOT_READ),
+        (2, Status::ReadFault, "", NOT_READ),
+        (3, Status::ReadFault, "", NOT_READ),
+        (4, Status::ReadFault, "", NOT_READ),
+        (5, Status::ReadFault, "", NOT_READ),
+        (6, Status::ReadFault, "", NOT_READ),
+        (7, Status::ReadFault, "", NOT_READ),
+        (8, Status::Done, WRITTEN, ""),
+    ] {
+        let ran = online(
+            alloc,
+            source(alloc, RULES.as_bytes(), &[call])?,
+            source(alloc, READINGS.as_bytes(), &[])?,
+            sink(alloc, &[])?,
+        )?;
+        ran.assert_is(&rt, status, written, note);
+    }
+    Ok(())
+}
+
+/// The note is written by three calls, and handed on by a fourth.
+#[test]
+fn a_note_that_fails_changes_no_status(rt: HostRuntime) -> Result<(), Fail> {
+    let alloc = rt.alloc();
+    for call in [1, 2, 3, 4, 5] {
+        let ran = online_noted(
+            alloc,
+            source(alloc, RULES.as_bytes(), &[])?,
+            source(alloc, READINGS.as_bytes(), &[3])?,
+            sink(alloc, &[])?,
+            sink(alloc, &[call])?,
+        )?;
+        assert_eq!(rt; ran.status, Status::ReadFault);
+        assert_eq!(rt; ran.out.held_bytes(), b"time,x\n0,12\n".as_slice());
+        assert_eq!(rt; ran.note.held_bytes(), front(NOT_READ.as_bytes(), call));
+    }
     Ok(())
 }
 

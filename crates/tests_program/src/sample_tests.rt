@@ -16,6 +16,17 @@ struct Ran {
 }
 
 fn sample(alloc: Global, rows: &str, seed: &str, fails: &[u64]) -> Result<Ran, AllocError> {
+    sample_noted(alloc, rows, seed, fails, &[])
+}
+
+/// The run, where these calls of the output fail, and these of the note.
+fn sample_noted(
+    alloc: Global,
+    rows: &str,
+    seed: &str,
+    fails: &[u64],
+    note_fails: &[u64],
+) -> Result<Ran, AllocError> {
     let mut ins = Inputs {
         rules: source(alloc, b"?", &[])?,
         readings: source(alloc, b"?", &[])?,
@@ -24,7 +35,7 @@ fn sample(alloc: Global, rows: &str, seed: &str, fails: &[u64]) -> Result<Ran, A
     let mut outs = Outputs {
         out: sink(alloc, fails)?,
         cert: sink(alloc, &[])?,
-        note: sink(alloc, &[])?,
+        note: sink(alloc, note_fails)?,
     };
     let words = words(alloc, &["sample", rows, seed])?;
     let mut solver = PathSolver::new(alloc);
@@ -107,6 +118,18 @@ fn an_output_of_a_sample_that_fails_holds_a_front(rt: HostRuntime) -> Result<(),
         };
         assert_eq!(rt; ran.status == Status::WriteFault, made);
         assert_eq!(rt; ran.out.held_bytes(), held);
+    }
+    Ok(())
+}
+
+#[test]
+fn a_note_of_a_sample_that_fails_holds_a_front(rt: HostRuntime) -> Result<(), Fail> {
+    let note = b"screen: a write failed\n";
+    for call in [1, 2, 3, 4, 5] {
+        let ran = sample_noted(rt.alloc(), "3", "0", &[1], &[call])?;
+        assert_eq!(rt; ran.status, Status::WriteFault);
+        assert!(rt; ran.out.held_bytes().is_empty());
+        assert_eq!(rt; ran.note.held_bytes(), front(note, call));
     }
     Ok(())
 }

@@ -7,6 +7,7 @@ use crate::order_window_tests::try_median;
 use online_repair::{Online, OnlineFault};
 use order_window::Key;
 use rule_file::{Rules, read_rules};
+use screen_io::{HonestSource, read_all};
 use series_csv::{TableCause, TableFault};
 use std::alloc::Global;
 use std::process::Abort;
@@ -370,5 +371,17 @@ fn other_rules_are_refused(rt: HostRuntime) -> Result<(), Fail> {
         let fault = Online::start(rt.alloc(), &rules).err();
         assert_eq!(rt; fault, Some(OnlineFault::NotOnline { rule }));
     }
+    Ok(())
+}
+
+#[test]
+fn a_file_that_was_read_whole_is_repaired(rt: HostRuntime) -> Result<(), Fail> {
+    let bytes = b"time,x\n0,10\n1,11\n2,20\n3,13\n".to_vec(rt.alloc())?;
+    let file = read_all(rt.alloc(), &mut HonestSource::new(bytes), 100)?;
+    let rules = read_rules(rt.alloc(), WINDOW_2.as_bytes())?;
+    let mut out = Vec::new(rt.alloc());
+    online_text(rt.alloc(), &rules, file.as_slice(), 1, &mut out)?;
+    let wanted = b"time,x\n0,12\n1,13\n2,14\n3,13\n";
+    assert_eq!(rt; out.as_slice(), wanted.as_slice());
     Ok(())
 }
