@@ -1,11 +1,10 @@
 //! Whole runs of the commands that check a certificate, over sources and sinks in memory.
 use crate::run_tests::{
-    BASE, BETWEEN, PRICED, RANGE_TRUST, SWING, changed, front, global, is_made, sink, source,
-    still, words,
+    BASE, BETWEEN, PRICED, RANGE_TRUST, SWING, changed, front, global, is_made, run_words, sink,
+    source, still, words,
 };
-use path_flow::PathSolver;
 use screen_io::{MemSink, MemSource, Source};
-use screen_tool::{EndUse, Inputs, Outputs, Status, roles, run};
+use screen_tool::{EndUse, Inputs, Outputs, Status, roles};
 use std::alloc::{AllocError, Global};
 use std::process::Abort;
 use std::test::Fail;
@@ -53,9 +52,7 @@ fn run_over(
         cert: sink(alloc, &[])?,
         note,
     };
-    let words = words(alloc, &[command, "r", "d", "c"])?;
-    let mut solver = PathSolver::new(alloc);
-    let status = run(alloc, words.as_slice(), &mut ins, &mut outs, &mut solver);
+    let status = run_words(alloc, &[command, "r", "d", "c"], &mut ins, &mut outs)?;
     let unread = ins.cert.read(&mut [0; 4]) != Ok(0);
     Ok(Ran {
         status,

@@ -1,8 +1,7 @@
 //! Whole runs of the command `online`, over sources and sinks in memory.
-use crate::run_tests::{front, sink, source, words};
-use path_flow::PathSolver;
+use crate::run_tests::{front, run_words, sink, source, words};
 use screen_io::{MemSink, MemSource, Source};
-use screen_tool::{EndUse, Inputs, Outputs, Status, roles, run};
+use screen_tool::{EndUse, Inputs, Outputs, Status, roles};
 use std::alloc::{AllocError, Global};
 use std::process::Abort;
 use std::test::Fail;
@@ -70,9 +69,7 @@ fn online_noted(
         cert: sink(alloc, &[])?,
         note,
     };
-    let words = words(alloc, &["online", "r"])?;
-    let mut solver = PathSolver::new(alloc);
-    let status = run(alloc, words.as_slice(), &mut ins, &mut outs, &mut solver);
+    let status = run_words(alloc, &["online", "r"], &mut ins, &mut outs)?;
     let unread = ins.cert.read(&mut [0; 4]) == Ok(1);
     Ok(Ran {
         status,

@@ -97,6 +97,18 @@ pub(super) fn words(alloc: Global, texts: &[&str]) -> Result<Vec<String>, AllocE
     Ok(words)
 }
 
+/// Runs the program on these words, with the solver that it has when it is built.
+pub(super) fn run_words(
+    alloc: Global,
+    texts: &[&str],
+    ins: &mut Inputs<MemSource>,
+    outs: &mut Outputs<MemSink>,
+) -> Result<Status, AllocError> {
+    let words = words(alloc, texts)?;
+    let mut solver = PathSolver::new(alloc);
+    Ok(run(alloc, words.as_slice(), ins, outs, &mut solver))
+}
+
 pub(super) fn source(alloc: Global, bytes: &[u8], fails: &[u64]) -> Result<MemSource, AllocError> {
     Ok(MemSource::new(bytes.to_vec(alloc)?, fails.to_vec(alloc)?, 16))
 }
@@ -132,9 +144,7 @@ fn run_over(
         readings,
         cert: source(alloc, b"?", &[])?,
     };
-    let words = words(alloc, texts)?;
-    let mut solver = PathSolver::new(alloc);
-    let status = run(alloc, words.as_slice(), &mut ins, &mut outs, &mut solver);
+    let status = run_words(alloc, texts, &mut ins, &mut outs)?;
     let read_cert = ins.cert.read(&mut [0; 4]) != Ok(1);
     Ok(Ran {
         status,

@@ -1,8 +1,7 @@
 //! Whole runs of the command `sample`, over sinks in memory.
-use crate::run_tests::{front, is_made, sink, source, words};
-use path_flow::PathSolver;
+use crate::run_tests::{front, is_made, run_words, sink, source, words};
 use screen_io::{MemSink, Source};
-use screen_tool::{EndUse, Inputs, Outputs, Status, roles, run};
+use screen_tool::{EndUse, Inputs, Outputs, Status, roles};
 use std::alloc::{AllocError, Global};
 use std::test::Fail;
 
@@ -37,9 +36,7 @@ fn sample_noted(
         cert: sink(alloc, &[])?,
         note: sink(alloc, note_fails)?,
     };
-    let words = words(alloc, &["sample", rows, seed])?;
-    let mut solver = PathSolver::new(alloc);
-    let status = run(alloc, words.as_slice(), &mut ins, &mut outs, &mut solver);
+    let status = run_words(alloc, &["sample", rows, seed], &mut ins, &mut outs)?;
     let left = (
         ins.rules.read(&mut [0; 4]),
         ins.readings.read(&mut [0; 4]),

@@ -1,3 +1,4 @@
+//! Medians and local costs of a reading and its successors, beside numbers that were found by hand.
 ghost use Rattle.std.specs.Prelude.{◌↔◌, IsTrue, All};
 ghost use Rattle.window_median.specs.LocalCost.{HasSteps};
 
