@@ -23,9 +23,9 @@ use Rattle.screen_words.specs.declared.status.Ending.TheVariants as ending
 use Rattle.screen_words.specs.declared.status.Status.{Status}
 use Rattle.screen_words.specs.declared.status.Status.TheVariants as status
 use Rattle.screen_tool.specs.Headline.{SomeObeys}
-use Rattle.screen_tool.specs.Sample.{AfterSampleReadings, AfterSampleRules, AnswersSample, DecidesSample, IsSample, SumsUp, summary_of, unread}
+use Rattle.screen_tool.specs.Sample.{AfterSampleReadings, AfterSampleRules, DecidesSample, IsSample, SumsUp, summary_of, unread}
 use Rattle.screen_tool.proofs.Decided.{is_read_fault, out_counted}
-use Rattle.screen_tool.proofs.SampleLaws.{sample_cert}
+use Rattle.screen_tool.proofs.SampleLaws.{AnswersSample, sample_cert}
 
 abbrev Any : Problem → Found → Type 0
 Any problem outcome = Unit {0}

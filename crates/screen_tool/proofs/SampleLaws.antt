@@ -15,11 +15,15 @@ use Rattle.series_rows.specs.declared.fault.TableFault.{TableFault}
 use Rattle.screen_words.specs.declared.status.Outcome.TheVariants as outcome
 use Rattle.screen_steps.specs.Answer.{Answer}
 use Rattle.screen_steps.specs.Files.{RulesAreOne, ReadingsAreOne}
-use Rattle.screen_tool.specs.Sample.{AfterSampleReadings, AfterSampleRules, AnswersSample, AnswersSampleBy, SumsUp, changed, summary_of, summary_text, unread}
+use Rattle.screen_tool.specs.Sample.{AfterSampleReadings, AfterSampleRules, AnswersSampleBy, SumsUp, changed, summary_of, summary_text, unread}
 use Rattle.screen_steps.proofs.BothFiles.{bounds_follow, bounds_one}
 
 abbrev Any : Problem → Found → Type 0
 Any problem outcome = Unit {0}
+
+-- what `sample` answers, with nothing asked beside
+abbrev pub AnswersSample : ℕ → ℕ → Answer → Type 0
+AnswersSample = AnswersSampleBy Any
 
 -- ---- what is counted may be left out
 

@@ -1,5 +1,5 @@
 -- To be believed: what each command answers, and the laws of it.
-use Rattle.std.specs.Prelude.{◌≡◌, ℕ, List, Option, Some, None}
+use Rattle.std.specs.Prelude.{◌≡◌, ℕ, List, Bool, true, false, Option, Some, None}
 use Rattle.cert_check.specs.declared.accepted.Accepted.{Accepted}
 use Rattle.least_cost.specs.declared.outcome.Outcome.{Outcome as Found}
 use Rattle.rule_file.specs.declared.rules.Rules.{Rules}
@@ -16,6 +16,15 @@ use Rattle.screen_steps.specs.Files.{without_texts}
 use Rattle.screen_tool.specs.Global.{AnswersGlobalBy}
 use Rattle.screen_tool.specs.Report.{AnswersReportBy}
 use Rattle.screen_tool.specs.Sample.{AnswersSampleBy}
+
+-- the commands for which a solver finds a repair
+abbrev pub finds_a_repair : Option Command → Bool
+finds_a_repair (Some Global) = true
+finds_a_repair (Some Check) = false
+finds_a_repair (Some Online) = false
+finds_a_repair (Some Report) = false
+finds_a_repair (Some (Sample rows seed)) = true
+finds_a_repair None = false
 
 -- Words that ask for no command are answered with the usage text, and nothing is read.
 abbrev pub usage : Answer

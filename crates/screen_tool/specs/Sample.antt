@@ -81,9 +81,6 @@ module _ (Counts : Problem → Found → Type 0) where
   abbrev pub AnswersSampleBy : ℕ → ℕ → Answer → Type 0
   AnswersSampleBy rows seed answer = (given : Answer) × ((rules : Result Rules RuleFault) × ReadsFile rules_text rules × AfterSampleRules rows seed rules given) × (answer ≡ unread given)
 
-abbrev pub AnswersSample : ℕ → ℕ → Answer → Type 0
-AnswersSample = AnswersSampleBy (λ problem outcome. Unit {0})
-
 -- the numbers of a sample are within their limits
 abbrev pub HasLimits : Option Command → Type 0
 HasLimits (Some (Sample rows seed)) = (1 ≤ rows) × (rows ≤ MOST_ROWS) × (seed ≤ MOST_SEED)

@@ -1,10 +1,10 @@
 //! What the program does with its words, its sources and its sinks.
-ghost use Rattle.std.specs.Prelude.{◌≡◌, ◌≢◌, ◌↔◌, ℕ, Some, None, Err, IfOk, MatchResult};
+ghost use Rattle.std.specs.Prelude.{◌≡◌, ◌≢◌, ◌↔◌, ℕ, false, Some, None, Err, IfOk, MatchResult};
 ghost use Rattle.cert_check.specs.Laws.{IsTrueClaim};
 ghost use Rattle.repair_report.specs.Report.{report_text};
 ghost use Rattle.screen_steps.specs.Answer.{Answer};
 ghost use Rattle.least_cost.specs.Answer.{CountsChanges};
-ghost use Rattle.screen_tool.specs.Answers.{Answers, AnswersBy};
+ghost use Rattle.screen_tool.specs.Answers.{Answers, AnswersBy, finds_a_repair};
 ghost use Rattle.screen_words.specs.Command.{command_of, roles_of, texts};
 ghost use Rattle.screen_words.specs.Ending.{status_of};
 ghost use Rattle.screen_tool.specs.Check.{check_text};
@@ -69,10 +69,7 @@ pub fn run<S: Source, K: Sink, V: Solver>(
     ensures due { IsDue S.left (roles_of (command_of (texts words.now))) (Answers (command_of (texts words.now))) ins.old result }
 
     // The solver is left where no repair is asked for, and what it tells of itself stays.
-    ensures check_leaves { command_of (texts words.now) ≡ Some Command.Check → solver.new ≡ solver.old }
-    ensures online_leaves { command_of (texts words.now) ≡ Some Command.Online → solver.new ≡ solver.old }
-    ensures report_leaves { command_of (texts words.now) ≡ Some Command.Report → solver.new ≡ solver.old }
-    ensures none_leaves { command_of (texts words.now) ≡ None → solver.new ≡ solver.old }
+    ensures solver { finds_a_repair (command_of (texts words.now)) ≡ false → solver.new ≡ solver.old }
     ensures most_stays { V.most solver.new ≡ V.most solver.old }
 
     // What the program is for.
@@ -120,10 +117,7 @@ fn ending_of<S: Source, K: Sink, V: Solver>(
     ensures usage { (result ≡ Ending.Ended Outcome.Usage) ↔ (command ≡ None) }
     ensures unused { LeavesUnused (roles_of command) ins.old ins.new outs.old outs.new }
     ensures note { outs.new.note ≡ outs.old.note }
-    ensures check_leaves { command ≡ Some Command.Check → solver.new ≡ solver.old }
-    ensures online_leaves { command ≡ Some Command.Online → solver.new ≡ solver.old }
-    ensures report_leaves { command ≡ Some Command.Report → solver.new ≡ solver.old }
-    ensures none_leaves { command ≡ None → solver.new ≡ solver.old }
+    ensures solver { finds_a_repair command ≡ false → solver.new ≡ solver.old }
     ensures most_stays { V.most solver.new ≡ V.most solver.old }
 {
     match command {
@@ -150,9 +144,7 @@ fn ending_by_reply<S: Source, K: Sink, V: Solver>(
     ensures usage { (result ≡ Ending.Ended Outcome.Usage) ↔ (command ≡ None) }
     ensures unused { LeavesUnused (roles_of command) ins.old ins.new outs.old outs.new }
     ensures note { outs.new.note ≡ outs.old.note }
-    ensures check_leaves { command ≡ Some Command.Check → solver.new ≡ solver.old }
-    ensures report_leaves { command ≡ Some Command.Report → solver.new ≡ solver.old }
-    ensures none_leaves { command ≡ None → solver.new ≡ solver.old }
+    ensures solver { finds_a_repair command ≡ false → solver.new ≡ solver.old }
     ensures most_stays { V.most solver.new ≡ V.most solver.old }
 {
     match reply_of(alloc, command, ins, solver) {
@@ -183,9 +175,7 @@ fn reply_of<S: Source, V: Solver>(
     ensures none_read { (rows seed : ℕ) → command ≡ Some (Command.Sample rows seed) → result ≢ Err Ending.ReadFault }
     ensures unread { (roles_of command).cert_read ≡ Nothing → ins.new.cert ≡ ins.old.cert }
     ensures idle { (roles_of command).rules ≡ Nothing → ins.new ≡ ins.old }
-    ensures check_leaves { command ≡ Some Command.Check → solver.new ≡ solver.old }
-    ensures report_leaves { command ≡ Some Command.Report → solver.new ≡ solver.old }
-    ensures none_leaves { command ≡ None → solver.new ≡ solver.old }
+    ensures solver { finds_a_repair command ≡ false → solver.new ≡ solver.old }
     ensures most_stays { V.most solver.new ≡ V.most solver.old }
 {
     match command {
