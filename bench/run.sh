@@ -3,9 +3,14 @@
 # one item and the ratio of the proved time to the plain one. `records` runs texts of three forms, each fed byte by
 # byte and by slices. `table` reads and writes readings files of two and of eight columns, and prints for a row. `bounds`
 # makes the bounds of a speed rule and of a swing rule, and tests the readings by them, and prints for a bound. For the
-# blocked chain it also prints the ratio of its proved time to that of the chain that
-# settles. `global` has no twin yet: it runs the built program on files of seven kinds, and prints its best time and the
-# greatest memory that it took.
+# blocked chain it also prints the ratio of its proved time to that of the chain that settles. `cert` reads, writes and
+# checks a certificate, and prints for a line.
+#
+# `solve` and `global` run on files of seven kinds, of 20,000 and of 200,000 readings. `solve` prints what solving takes, how
+# often flow was pushed, and the nodes that the plain searches settled and the arcs that they looked at; then the memory of
+# each side, which also holds the files, and how much longer the greater file takes. `global` runs the built program, and
+# prints its best time and the greatest memory that it took, beside the sum of the best times of its parts and that of the
+# twin's parts.
 #
 # `online` sends 1,000,000 rows of one sensor, one a second, from a pipe through the built program and through its twin, by a
 # rule with a window of 10, of 60, of 600 and of 4,000 seconds, with up to 4,096 rows held, and compares the bytes that they
@@ -13,30 +18,11 @@
 # this one took for 100,000 and for 1,000,000 rows. Without a rule each row is written as the next one comes: that is what
 # reading and writing take alone.
 #
-# usage: bench/run.sh units|text_of|ticks|records|table|bounds|settle|blocked|global|online [ROUNDS]
+# usage: bench/run.sh units|text_of|ticks|records|table|bounds|settle|blocked|cert|solve|global|online [ROUNDS]
 set -euo pipefail
 cd "$(dirname "$0")/.."
-what=${1:?usage: bench/run.sh units|text_of|ticks|records|table|bounds|settle|blocked|global|online [ROUNDS]}
+what=${1:?usage: bench/run.sh units|text_of|ticks|records|table|bounds|settle|blocked|cert|solve|global|online [ROUNDS]}
 rounds=${2:-5}
-
-# repair KIND READINGS: the whole program on files of that kind.
-repair() {
-    local kind=$1 readings=$2 folder=bench/out/$1 status began took best= memory
-    mkdir -p "$folder"
-    bench/out/files "$kind" "$readings" "$folder"
-    for _ in $(seq "$rounds"); do
-        status=0
-        began=${EPOCHREALTIME/./}
-        /usr/bin/time -f %M -o "$folder/memory" crates/screen/out/screen global "$folder/rules.toml" "$folder/readings.csv" \
-            "$folder/cert" > "$folder/out" 2> "$folder/err" || status=$?
-        took=$((${EPOCHREALTIME/./} - began))
-        # Where no series obeys, the status is 1.
-        [ "$status" = 0 ] || [ "$kind $status" = "blocked 1" ] || { cat "$folder/err"; exit 1; }
-        [ -n "$best" ] && [ "$best" -le "$took" ] || best=$took
-    done
-    memory=$(tail -n 1 "$folder/memory")
-    echo "$kind: $readings readings, $((best / 1000)) ms, $((memory * 1024 / readings)) bytes a reading"
-}
 
 # through READINGS PROGRAM...: how many microseconds the readings take from a pipe through a program.
 through() {
@@ -76,11 +62,15 @@ stream() {
         }'
 }
 
-if [ "$what" = global ] || [ "$what" = online ]; then
-    mkdir -p bench/out
-    rustc -O -o bench/out/files bench/files.rs
-    make all > bench/out/build.log 2>&1 || { tail -n 20 bench/out/build.log; exit 1; }
-fi
+mkdir -p bench/out
+case $what in
+solve | global | online)
+    rustc -O -o bench/out/files bench/files.rs ;;
+esac
+case $what in
+global | online)
+    make all > bench/out/build.log 2>&1 || { tail -n 20 bench/out/build.log; exit 1; } ;;
+esac
 
 if [ "$what" = online ]; then
     rustc -O -o bench/out/online bench/twins/online.rs
@@ -90,19 +80,11 @@ if [ "$what" = online ]; then
     exit
 fi
 
-if [ "$what" = global ]; then
-    for kind in spikes noise5 noise20 two blocked step below; do
-        repair "$kind" 20000
-        repair "$kind" 200000
-    done
-    exit
-fi
-
-# The blocked chain is settled by the same twin as the other one.
+# The blocked chain is settled by the same twin as the other one, and the twin that solves has the other parts, too.
 twin=$what
 [ "$what" != blocked ] || twin=settle
+[ "$what" != global ] || twin=solve
 
-mkdir -p bench/out
 rustc -O -o "bench/out/$twin" "bench/twins/$twin.rs"
 proved=crates/measure/out/measure
 rm -f "$proved"
@@ -129,6 +111,81 @@ compare() {
     last=$best_proved
 }
 
+# least FILE: the least number of each column.
+least() {
+    awk '{ for (i = 1; i <= NF; i++) if (NR == 1 || $i < least[i]) least[i] = $i }
+        END { for (i = 1; i <= NF; i++) printf "%s ", least[i]; print "" }' "$1"
+}
+
+# parts KIND READINGS: makes the files, and runs both sides in turn on them. Leaves a line for each round, and the memory.
+parts() {
+    local folder=bench/out/$1
+    mkdir -p "$folder"
+    bench/out/files "$1" "$2" "$folder"
+    rm -f "$folder/plain" "$folder/proved"
+    for _ in $(seq "$rounds"); do
+        /usr/bin/time -f %M -o "$folder/plain-memory" "bench/out/$twin" "$folder" >> "$folder/plain"
+        /usr/bin/time -f %M -o "$folder/proved-memory" "$proved" repair "$folder" >> "$folder/proved"
+    done
+    # What the repair costs, and how often flow was changed.
+    [ "$(cut -d' ' -f6,7 "$folder/plain" | sort -u)" = "$(cut -d' ' -f6,7 "$folder/proved" | sort -u)" ] \
+        || { echo "the answers differ"; tail -n 1 "$folder/plain" "$folder/proved"; exit 1; }
+}
+
+# solve KIND READINGS: what solving takes on both sides.
+solve() {
+    local folder=bench/out/$1 plain_time proved_time pushes settled looks
+    parts "$1" "$2"
+    read -r _ _ _ plain_time _ < <(least "$folder/plain")
+    read -r _ _ _ proved_time _ _ pushes < <(least "$folder/proved")
+    read -r settled looks < <("bench/out/$twin" "$folder" counts)
+    awk -v name="$1" -v readings="$2" -v plain="$plain_time" -v proved="$proved_time" \
+        -v plain_memory="$(tail -n 1 "$folder/plain-memory")" -v proved_memory="$(tail -n 1 "$folder/proved-memory")" \
+        -v counts="$pushes pushes, $settled nodes settled, $looks arcs looked at" \
+        'BEGIN {
+            printf "%s: %d readings, plain %.1f ms, proved %.1f ms, ratio %.2f; %s", name, readings, plain / 1000000, \
+                proved / 1000000, proved / plain, counts
+            printf "; plain %d, proved %d bytes a reading\n", plain_memory * 1024 / readings, proved_memory * 1024 / readings
+        }'
+    last=$proved_time
+}
+
+# repair KIND READINGS: the whole program on files of that kind, and the parts on both sides.
+repair() {
+    local kind=$1 readings=$2 folder=bench/out/$1 status began took best= memory plain_sum proved_sum
+    parts "$kind" "$readings"
+    rm -f "$folder/plain-texts" "$folder/proved-texts"
+    for _ in $(seq "$rounds"); do
+        status=0
+        began=${EPOCHREALTIME/./}
+        /usr/bin/time -f %M -o "$folder/memory" crates/screen/out/screen global "$folder/rules.toml" "$folder/readings.csv" \
+            "$folder/cert" > "$folder/out" 2> "$folder/err" || status=$?
+        took=$((${EPOCHREALTIME/./} - began))
+        # Where no series obeys, the status is 1.
+        [ "$status" = 0 ] || [ "$kind $status" = "blocked 1" ] || { cat "$folder/err"; exit 1; }
+        [ -n "$best" ] && [ "$best" -le "$took" ] || best=$took
+        "bench/out/$twin" "$folder" texts >> "$folder/plain-texts"
+        "$proved" texts "$folder" >> "$folder/proved-texts"
+    done
+    memory=$(tail -n 1 "$folder/memory")
+    plain_sum=$(sum_of "$folder/plain" "$folder/plain-texts")
+    proved_sum=$(sum_of "$folder/proved" "$folder/proved-texts")
+    awk -v name="$kind" -v readings="$readings" -v took="$best" -v memory="$memory" -v plain="${plain_sum##* }" \
+        -v proved="${proved_sum##* }" \
+        'BEGIN {
+            printf "%s: %d readings, %.0f ms, %d bytes a reading; ", name, readings, took / 1000, memory * 1024 / readings
+            printf "parts: proved %.0f ms, plain %.0f ms, ratio of the whole to the plain parts %.2f\n", proved, plain, \
+                took / 1000 / plain
+        }'
+    echo "    read, bounds, network, solve, greatest, texts, sum in ms: proved ${proved_sum}; plain ${plain_sum}"
+}
+
+# sum_of PARTS TEXTS: the least milliseconds of each part, and their sum.
+sum_of() {
+    echo "$(least "$1" | cut -d' ' -f1-5) $(least "$2" | cut -d' ' -f1)" \
+        | awk '{ for (i = 1; i <= NF; i++) { sum += $i / 1000000; printf "%.1f ", $i / 1000000 } printf "%.1f", sum }'
+}
+
 case $what in
 records)
     for name in records slices records-quoted slices-quoted records-crlf slices-crlf; do
@@ -141,6 +198,23 @@ table)
 bounds)
     for name in bounds-speed bounds-swing broken-speed broken-swing; do
         compare "$name"
+    done ;;
+cert)
+    for name in cert-read cert-write cert-check; do
+        compare "$name"
+    done ;;
+solve)
+    for kind in spikes noise5 noise20 two blocked step below; do
+        solve "$kind" 20000
+        short=$last
+        solve "$kind" 200000
+        awk -v name="$kind" -v short="$short" -v long="$last" \
+            'BEGIN { printf "%s: from 20,000 to 200,000 readings: %.1f times as long\n", name, long / short }'
+    done ;;
+global)
+    for kind in spikes noise5 noise20 two blocked step below; do
+        repair "$kind" 20000
+        repair "$kind" 200000
     done ;;
 blocked)
     compare blocked

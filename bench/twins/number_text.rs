@@ -26,7 +26,7 @@ pub fn push_text_of(text: &mut Vec<u8>, value: i128, d: u32) {
     }
 }
 
-fn push_digits(text: &mut Vec<u8>, mut number: u64) {
+pub fn push_digits(text: &mut Vec<u8>, mut number: u64) {
     let mut digits = [0; 20];
     let mut from = digits.len();
     loop {

@@ -1,7 +1,7 @@
-//! The plain twin of `series_csv`: the same types, the same checks and the same texts, with no proof.
-//! It makes a readings file of 200,000 rows, of two columns or of eight with three sensors, of which each misses every
-//! third reading. It reads it as a table, or writes the table with the values that it read. Prints the picoseconds for a row, a sum
-//! that depends on all that was read or written, and the bytes of the file.
+//! The plain twin of `series_csv`, of which files are read and written: it makes a readings file of 200,000 rows, of two
+//! columns or of eight with three sensors, of which each misses every third reading. It reads it as a table, or writes the
+//! table with the values that it read. Prints the picoseconds for a row, a sum that depends on all that was read or written,
+//! and the bytes of the file.
 
 mod cutter;
 mod number;
