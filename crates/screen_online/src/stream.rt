@@ -164,5 +164,5 @@ fn write_ready<K: Sink>(
 fn too_many_bytes() -> Ending
     ensures { result ≡ Ending.Ended (Outcome.ReadingsRefused (of_the_file TableCause.FileTooLong)) }
 {
-    Ending::Ended(Outcome::ReadingsRefused(TableFault::of_the_file(TableCause::FileTooLong)))
+    Ending::Ended(Outcome::ReadingsRefused(TableFault::too_long()))
 }

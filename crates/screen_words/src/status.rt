@@ -8,7 +8,7 @@ use cert_check::CertFault;
 use global_repair::RepairFault;
 use online_repair::OnlineFault;
 use rule_file::RuleFault;
-use series_csv::{TableCause, TableFault};
+use series_csv::TableFault;
 use std::alloc::AllocError;
 
 /// How a run ended, as its exit status tells it.
@@ -171,9 +171,7 @@ impl From<StepFault<TableFault>> for Ending {
 
     fn from(fault: StepFault<TableFault>) -> Ending {
         match fault {
-            StepFault::TooLong => Ending::Ended(Outcome::ReadingsRefused(TableFault::of_the_file(
-                TableCause::FileTooLong,
-            ))),
+            StepFault::TooLong => Ending::Ended(Outcome::ReadingsRefused(TableFault::too_long())),
             StepFault::Refused(fault) => Ending::Ended(Outcome::ReadingsRefused(fault)),
             StepFault::Failed => Ending::ReadFault,
             StepFault::Memory => Ending::Memory,

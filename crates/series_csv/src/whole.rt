@@ -30,7 +30,7 @@ pub fn read_table(alloc: Global, rules: &Rules, bytes: &[u8]) -> Result<Table, T
     // The law of the clause `only`; it does nothing.
     one_answer();
     if bytes.len() > LONGEST {
-        return Err(TableFault::of_the_file(TableCause::FileTooLong));
+        return Err(TableFault::too_long());
     }
     read_short(alloc, rules, bytes)
 }

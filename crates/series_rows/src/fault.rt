@@ -81,6 +81,13 @@ impl TableFault {
     {
         TableFault::at(0, 0, cause)
     }
+
+    /// The fault of a file with more bytes than a readings file may have.
+    pub fn too_long() -> TableFault
+        ensures { result ≡ of_the_file TableCause.FileTooLong }
+    {
+        TableFault::of_the_file(TableCause::FileTooLong)
+    }
 }
 
 impl From<AllocError> for TableFault {
