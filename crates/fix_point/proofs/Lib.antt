@@ -1,3 +1,4 @@
+pub mod Decided
 pub mod Fronts
 pub mod Numbers
 pub mod Only

@@ -104,14 +104,9 @@ pub fn one_answer()
 {}
 
 /// Every text has an answer: a value, or a refusal.
-pub fn an_answer(text: &[u8], d: u32, extra: Extra, most: i64)
-    requires decimals { d ≤ 9 }
-    requires least { pos 0 ≤ℤ most }
-    requires greatest { most ≤ℤ pos (9 * 10 ^ 18) }
-    ensures { (answer : Result ℤ NumFault) × Reads text.now d extra most answer }
-{
-    let _answer = scaled(text, d, extra, most);
-}
+pub fn an_answer()
+    ensures { (text : List ℕ) (d : ℕ) (extra : Extra) (most : ℤ) → (answer : Result ℤ NumFault) × Reads text d extra most answer }
+{}
 
 /// A number of this size, below 0 where it is negative.
 fn signed(negative: bool, size: u64) -> i64

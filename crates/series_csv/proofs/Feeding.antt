@@ -1,15 +1,14 @@
 -- What a reader answers to the bytes of a file.
-use Rattle.std.proofs.Common.{◌≡◌, ◌≢◌, ℕ, ◌+◌, zero, suc, List, [], ◌∷◌, ◌++◌, length, Option, Some, None, Result, Ok, Err, refl, sym, ap, ◌∙◌, subst, arith}
+use Rattle.std.proofs.Common.{◌≡◌, ℕ, List, [], ◌∷◌, ◌++◌, length, Option, Some, None, Result, Ok, Err, refl, sym, ap, ◌∙◌, subst}
 use Rattle.std.proofs.lemmas.List.{append-nil}
 use Rattle.record_cut.specs.Ended.{Ended, so_far, fault_at_byte}
-use Rattle.record_cut.specs.Records.{Cut, records}
+use Rattle.record_cut.specs.Records.{Cut}
 use Rattle.record_cut.specs.Feeds as Fed
 use Rattle.record_cut.specs.declared.cutter.Cutter.{Cutter}
 use Rattle.record_cut.specs.declared.fault.CutFault.{CutFault}
 use Rattle.record_cut.specs.declared.fault.CutFault.TheVariants.{BadQuote, RecordTooLong, OpenQuote, Memory}
 use Rattle.rule_file.specs.declared.rules.Rules.{Rules}
-use Rattle.series_rows.specs.Faults.{fault_at, of_memory}
-use Rattle.series_rows.specs.Row.{RowView}
+use Rattle.series_rows.specs.Faults.{fault_at}
 use Rattle.series_rows.specs.declared.fault.TableCause.TheVariants.{Cut as CutOff}
 use Rattle.series_rows.specs.declared.fault.TableFault.{TableFault}
 use Rattle.series_rows.specs.declared.limits.Limits.{Limits}
@@ -24,7 +23,7 @@ use Rattle.series_csv.specs.declared.reader.RowReader.{RowReader}
 use Rattle.series_csv.specs.declared.reader.Stage.{Stage}
 use Rattle.series_csv.specs.declared.reader.Stage.TheVariants.{Open, Refused}
 use Rattle.series_csv.specs.Stays.{FilesHaveOneAnswer}
-use Rattle.series_csv.proofs.Reached.{read_so, rows_with_event, Has, HasNext, next_event, next_refused, number_is, last_refused}
+use Rattle.series_csv.proofs.Reached.{read_so, rows_with_event, Has, next_event, next_refused, number_is, last_refused}
 
 -- what the records of a cut are read as
 abbrev pub ReadsCutSoFar : Rules → Limits → Ended → Read → Type 0

@@ -1,5 +1,5 @@
 -- What a reader answers to the end of a file.
-use Rattle.std.proofs.Common.{◌≡◌, ◌≢◌, ℕ, List, [], ◌∷◌, ◌++◌, length, Option, Some, None, Result, Ok, Err, refl, sym, ap, ◌∙◌, subst}
+use Rattle.std.proofs.Common.{◌≡◌, ◌≢◌, ℕ, List, [], ◌∷◌, ◌++◌, length, Option, Some, None, Result, Ok, Err, refl, sym, ap, subst}
 use Rattle.std.proofs.lemmas.List.{append-nil}
 use Rattle.record_cut.specs.Ended.{Ended, ended}
 use Rattle.record_cut.specs.Feeds as Fed
@@ -14,7 +14,7 @@ use Rattle.series_rows.specs.declared.fault.TableCause.TheVariants.{Cut as CutOf
 use Rattle.series_rows.specs.declared.fault.TableFault.{TableFault}
 use Rattle.series_rows.specs.declared.limits.Limits.{Limits}
 use Rattle.series_csv.specs.Read.{Read, ReadsRecords}
-use Rattle.series_csv.specs.File.{end_fault, ReadsSoFar, ReadsEnded}
+use Rattle.series_csv.specs.File.{end_fault, ReadsEnded}
 use Rattle.series_csv.specs.Feeds.{with_event, IsNew, refused_by, Ends}
 use Rattle.series_csv.specs.StandsFor.{StandsFor}
 use Rattle.series_csv.specs.Progress.{TakesLast, number_of_next, without_more}

@@ -1,5 +1,5 @@
--- Where each record has an answer, each file has one.
-use Rattle.std.proofs.Common.{◌≡◌, ◌⊎◌, inl, inr, ℕ, ◌<◌, ◌≤◌, List, [], ◌∷◌, length, Option, Some, None, Result, Ok, Err, refl, sym, ap, ◌∙◌, subst, arith}
+-- Each file has an answer, since each of its records has one.
+use Rattle.std.proofs.Common.{◌≡◌, ◌⊎◌, inl, inr, ℕ, ◌<◌, ◌≤◌, List, [], ◌∷◌, length, Option, Some, None, Result, Ok, Err, refl, ap}
 use Rattle.std.proofs.lemmas.Bool.{cases_lt}
 use Rattle.rule_file.specs.declared.rules.Rules.{Rules}
 use Rattle.series_rows.specs.Before.{BeforeView, nothing_before, after_row}
@@ -11,9 +11,9 @@ use Rattle.series_rows.specs.declared.fault.TableCause.TheVariants.{NoHeader, Cu
 use Rattle.series_rows.specs.declared.fault.TableFault.{TableFault}
 use Rattle.series_rows.specs.declared.limits.Limits.{Limits}
 use Rattle.series_rows.specs.declared.limits.Limits.TheVariants.{Whole}
-use Rattle.series_csv.specs.Read.{Read, ReadsRows, ReadsFirst, ReadsRecords}
-use Rattle.series_csv.specs.File.{TableView, whole, cut_fault, end_fault, ReadsSoFar, ReadsEnded, ReadsShort, ReadsTable}
-use Rattle.series_csv.specs.Stays.{RecordsHaveAnswers, HasAnswers}
+use Rattle.series_csv.specs.Read.{Read, ReadsRows, ReadsRecords}
+use Rattle.series_csv.specs.File.{TableView, cut_fault, end_fault, ReadsEnded, ReadsShort, ReadsTable}
+use Rattle.series_csv.specs.Stays.{FilesHaveAnswers}
 use Rattle.series_csv.specs.declared.table.TheConstants.{LONGEST}
 use Rattle.record_cut.specs.declared.fault.CutFault.{CutFault}
 use Rattle.series_csv.proofs.Continuing.{none_or_some}
@@ -24,6 +24,11 @@ use Rattle.series_csv.proofs.Finishing.{end_of}
 abbrev pub HeadersHaveAnswers : Type 0
 HeadersHaveAnswers = (rules : Rules) (fields : List (List ℕ)) → (answer : Result HeaderView TableFault) × ReadsHeader rules fields answer
 
+-- each later record is a row, or has a reason why it is none
+abbrev pub RowsHaveAnswers : Type 0
+RowsHaveAnswers =
+    (rules : Rules) (header : HeaderView) (limits : Limits) (before : BeforeView) (fields : List (List ℕ)) → (answer : Result RowView TableFault) × ReadsRow rules header limits before fields answer
+
 abbrev RowsAnswer : Rules → Limits → HeaderView → List (List (List ℕ)) → Option TableFault → BeforeView → Type 0
 RowsAnswer rules limits header records last before = (rows : List RowView) × (fault : Option TableFault) × ReadsRows rules limits header before records last rows fault
 
@@ -31,25 +36,25 @@ row_answer : (rules : Rules) (limits : Limits) (header : HeaderView) (before : B
 row_answer rules limits header before fields records last (Ok row) p rest = let others = rest (after_row before row) in (row ∷ others.0, others.1, (p, others.2))
 row_answer rules limits header before fields records last (Err fault) p rest = ([], Some fault, (fault, p, refl))
 
-rows_answer : (rules : Rules) → RecordsHaveAnswers rules → (limits : Limits) (header : HeaderView) (records : List (List (List ℕ))) (last : Option TableFault) (before : BeforeView) → RowsAnswer rules limits header records last before
-rows_answer rules all limits header [] last before = ([], last, refl)
-rows_answer rules all limits header (fields ∷ records) last before =
-    let found = all header limits before fields in
-    row_answer rules limits header before fields records last found.0 found.1 (rows_answer rules all limits header records last)
+rows_answer : RowsHaveAnswers → (rules : Rules) (limits : Limits) (header : HeaderView) (records : List (List (List ℕ))) (last : Option TableFault) (before : BeforeView) → RowsAnswer rules limits header records last before
+rows_answer later rules limits header [] last before = ([], last, refl)
+rows_answer later rules limits header (fields ∷ records) last before =
+    let found = later rules header limits before fields in
+    row_answer rules limits header before fields records last found.0 found.1 (rows_answer later rules limits header records last)
 
 abbrev RecordsAnswer : Rules → Limits → List (List (List ℕ)) → Option TableFault → Type 0
 RecordsAnswer rules limits records last = (read : Read) × ReadsRecords rules limits records last read
 
-first_answer : (rules : Rules) → RecordsHaveAnswers rules → (limits : Limits) (fields : List (List ℕ)) (records : List (List (List ℕ))) (last : Option TableFault) (answer : Result HeaderView TableFault) → ReadsHeader rules fields answer → RecordsAnswer rules limits (fields ∷ records) last
-first_answer rules all limits fields records last (Ok header) p =
-    let rest = rows_answer rules all limits header records last nothing_before in
+first_answer : RowsHaveAnswers → (rules : Rules) (limits : Limits) (fields : List (List ℕ)) (records : List (List (List ℕ))) (last : Option TableFault) (answer : Result HeaderView TableFault) → ReadsHeader rules fields answer → RecordsAnswer rules limits (fields ∷ records) last
+first_answer later rules limits fields records last (Ok header) p =
+    let rest = rows_answer later rules limits header records last nothing_before in
     (record { header = Some header; rows = rest.0; fault = rest.1 }, (p, rest.2))
-first_answer rules all limits fields records last (Err fault) p = (record { header = None; rows = []; fault = Some fault }, (fault, p, refl, refl))
+first_answer later rules limits fields records last (Err fault) p = (record { header = None; rows = []; fault = Some fault }, (fault, p, refl, refl))
 
-records_answer : HeadersHaveAnswers → (rules : Rules) → RecordsHaveAnswers rules → (limits : Limits) (records : List (List (List ℕ))) (last : Option TableFault) → RecordsAnswer rules limits records last
-records_answer headers rules all limits [] last = (record { header = None; rows = []; fault = last }, refl)
-records_answer headers rules all limits (fields ∷ records) last =
-    let found = headers rules fields in first_answer rules all limits fields records last found.0 found.1
+records_answer : HeadersHaveAnswers → RowsHaveAnswers → (rules : Rules) (limits : Limits) (records : List (List (List ℕ))) (last : Option TableFault) → RecordsAnswer rules limits records last
+records_answer first later rules limits [] last = (record { header = None; rows = []; fault = last }, refl)
+records_answer first later rules limits (fields ∷ records) last =
+    let found = first rules fields in first_answer later rules limits fields records last found.0 found.1
 
 -- ---- a table
 
@@ -72,13 +77,13 @@ table_answer : (rules : Rules) (bytes : List ℕ) → (answer : Result TableView
 table_answer rules bytes short (inl long) = (Err (of_the_file FileTooLong), inl (long, refl))
 table_answer rules bytes short (inr fits) = (short.0, inr (fits, short.1))
 
-pub answers : HeadersHaveAnswers → (rules : Rules) (limits : Limits) (bytes : List ℕ) → RecordsHaveAnswers rules → HasAnswers rules limits bytes
-answers headers rules limits bytes all =
+pub answers : HeadersHaveAnswers → RowsHaveAnswers → FilesHaveAnswers
+answers first later = λ rules limits bytes.
     let cut = cut_of rules bytes in
     let over = end_of rules bytes in
-    let read = records_answer headers rules all Whole over.records (end_fault over.records over.fault) in
+    let read = records_answer first later rules Whole over.records (end_fault over.records over.fault) in
     record {
-      so_far = records_answer headers rules all limits cut.records (cut_fault cut.records cut.fault);
-      ended = records_answer headers rules all limits over.records (end_fault over.records over.fault);
+      so_far = records_answer first later rules limits cut.records (cut_fault cut.records cut.fault);
+      ended = records_answer first later rules limits over.records (end_fault over.records over.fault);
       table = table_answer rules bytes (short_answer rules bytes read.0.header read.0.rows read.0.fault read.1) (cases_lt LONGEST (length bytes));
     }

@@ -1,5 +1,5 @@
 -- What the records of a file are read as is one thing only.
-use Rattle.std.proofs.Common.{◌≡◌, ◌⊎◌, inl, inr, ℕ, ◌<◌, ◌≤◌, List, [], ◌∷◌, length, Option, Some, None, Result, Ok, Err, refl, sym, ap, ◌∙◌, subst, arith}
+use Rattle.std.proofs.Common.{◌≡◌, inl, inr, ℕ, List, [], ◌∷◌, Option, Some, None, Result, Ok, Err, refl, sym, ap, ◌∙◌, subst, arith}
 use Rattle.words.proofs.Answers.{value_or_cause, one_cause, one_good}
 use Rattle.rule_file.specs.declared.rules.Rules.{Rules}
 use Rattle.series_rows.specs.Before.{BeforeView, nothing_before, after_row}
@@ -10,7 +10,7 @@ use Rattle.series_rows.specs.declared.fault.TableFault.{TableFault}
 use Rattle.series_rows.specs.declared.limits.Limits.{Limits}
 use Rattle.series_rows.specs.declared.limits.Limits.TheVariants.{Whole}
 use Rattle.series_csv.specs.Read.{Read, ReadsRows, ReadsFirst, ReadsRecords}
-use Rattle.series_csv.specs.File.{TableView, whole, ReadsSoFar, ReadsEnded, ReadsShort, ReadsTable}
+use Rattle.series_csv.specs.File.{TableView, whole, ReadsEnded, ReadsShort, ReadsTable}
 
 -- what is proved of one record
 abbrev pub HeadersAreOne : Type 0

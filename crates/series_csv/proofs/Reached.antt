@@ -1,5 +1,5 @@
 -- What has been read, and the next record.
-use Rattle.std.proofs.Common.{◌≡◌, ◌≢◌, ℕ, suc, ◌+◌, List, [], ◌∷◌, ◌++◌, length, Option, Some, None, Result, Ok, Err, refl, sym, ap, ◌∙◌, subst, zero-add, arith}
+use Rattle.std.proofs.Common.{◌≡◌, ◌≢◌, ℕ, suc, List, [], ◌∷◌, ◌++◌, length, Option, Some, None, Result, Ok, Err, refl, sym, ap, ◌∙◌, subst, zero-add}
 use Rattle.std.proofs.lemmas.List.{append-nil}
 use Rattle.rule_file.specs.declared.rules.Rules.{Rules}
 use Rattle.series_rows.specs.Before.{BeforeView, nothing_before, after_row}
@@ -9,14 +9,14 @@ use Rattle.series_rows.specs.ReadsRow.{ReadsRow}
 use Rattle.series_rows.specs.Row.{RowView}
 use Rattle.series_rows.specs.declared.fault.TableFault.{TableFault}
 use Rattle.series_rows.specs.declared.limits.Limits.{Limits}
-use Rattle.series_csv.specs.Read.{Read, ReadsRows, ReadsRecords}
+use Rattle.series_csv.specs.Read.{Read, ReadsRecords}
 use Rattle.series_csv.specs.Feeds.{with_event, IsNew, refused_by}
 use Rattle.series_csv.specs.StandsFor.{before_next, HasRead}
 use Rattle.series_csv.specs.Progress.{after_event, Reads, ReadsNext, number_of_next}
 use Rattle.series_csv.specs.declared.event.Event.{Event}
 use Rattle.series_csv.specs.declared.event.Event.TheVariants.{Header, Row}
 use Rattle.series_csv.specs.declared.progress.Progress.{Progress}
-use Rattle.series_csv.proofs.Continuing.{records_on, records_refused, nothing_read, with_last_fault, count_records, before_next-push, rows-before_next}
+use Rattle.series_csv.proofs.Continuing.{records_on, nothing_read, with_last_fault, count_records, before_next-push, rows-before_next}
 
 -- all that has been read, and nothing was refused
 abbrev pub read_so : Progress → List RowView → Read

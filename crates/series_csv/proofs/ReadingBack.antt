@@ -1,19 +1,15 @@
 -- The text of a table with a series is read again as the table with that series.
-use Rattle.std.proofs.Common.{◌≡◌, ◌⊎◌, inl, inr, ℕ, suc, ◌+◌, ◌-◌, ◌<◌, ◌≤◌, ℤ, List, [], ◌∷◌, ◌++◌, length, take, drop, Option, Some, None, Result, Ok, Err, refl, sym, ap, ◌∙◌, subst, arith}
+use Rattle.std.proofs.Common.{◌≡◌, inl, inr, ℕ, suc, ◌+◌, ◌<◌, ℤ, List, [], ◌∷◌, ◌++◌, length, take, drop, Option, Some, None, Result, Ok, Err, refl, sym, ap, ◌∙◌, subst, arith}
 use Rattle.std.specs.List.{AllByRecursion}
 use Rattle.std.proofs.lemmas.List.{append-nil, length-take-le, length-drop, take-append-drop}
 use Rattle.words.proofs.Lists.{all_of_append}
 use Rattle.record_cut.specs.Ended.{Ended, ended, last_record, fault_at_all}
-use Rattle.record_cut.specs.Record.{Nothing}
-use Rattle.record_cut.specs.Records.{Cut, Rest, records as cut_records}
-use Rattle.record_cut.specs.Row.{text_of_row}
+use Rattle.record_cut.specs.Records.{Cut}
 use Rattle.record_cut.specs.RoundTrip.{text_of_rows, AreWithinLimits, RoundTrip}
-use Rattle.record_cut.specs.declared.cutter.TheConstants.{LONGEST as LONGEST_RECORD}
 use Rattle.rule_file.specs.declared.rules.Rules.{Rules}
 use Rattle.series_rows.specs.Before.{BeforeView, nothing_before, after_row}
 use Rattle.series_rows.specs.Header.{HeaderView, IsHeader, ReadsHeader, time_column}
 use Rattle.series_rows.specs.ReadBack.{RowsAreReadBack, AreValuesOf, row_with_values, readings_with}
-use Rattle.series_rows.specs.ReadsRow.{ReadsRow}
 use Rattle.series_rows.specs.Row.{RowView}
 use Rattle.series_rows.specs.Texts.{header_text, fields_with, row_text_with}
 use Rattle.series_rows.specs.declared.cell.RowReading.{RowReading}

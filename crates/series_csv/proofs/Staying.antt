@@ -1,10 +1,9 @@
 -- What is read of the bytes of a file stays, whatever follows.
-use Rattle.std.proofs.Common.{◌≡◌, ℕ, List, [], ◌∷◌, ◌++◌, Option, Some, None, Result, Ok, Err, IsTrue, refl, sym, ap, ◌∙◌, subst, append_assoc}
+use Rattle.std.proofs.Common.{◌≡◌, ℕ, List, [], ◌∷◌, ◌++◌, Option, Some, None, IsTrue, refl, sym, ap, ◌∙◌, subst, append_assoc}
 use Rattle.std.specs.Prelude.{IsSome}
-use Rattle.std.proofs.lemmas.List.{append-nil}
 use Rattle.words.proofs.Answers.{value_or_cause, one_good}
 use Rattle.words.specs.Separators.{is_separator}
-use Rattle.record_cut.specs.Ended.{Ended, so_far, ended, last_record, FaultsStay, RecordsStay}
+use Rattle.record_cut.specs.Ended.{last_record, FaultsStay, RecordsStay}
 use Rattle.record_cut.specs.Records.{records as cut_records}
 use Rattle.record_cut.specs.declared.fault.CutFault.{CutFault}
 use Rattle.rule_file.specs.declared.rules.Rules.{Rules}
@@ -18,7 +17,7 @@ use Rattle.series_csv.specs.Read.{Read, ReadsRows, ReadsFirst, ReadsRecords}
 use Rattle.series_csv.specs.File.{cut_fault, end_fault, ReadsSoFar, ReadsEnded}
 use Rattle.series_csv.specs.Stays.{Continues, Stays}
 use Rattle.series_csv.proofs.OneRead.{HeadersAreOne, RowsAreOne}
-use Rattle.series_csv.proofs.Continuing.{some_or_none, records_refused}
+use Rattle.series_csv.proofs.Continuing.{records_refused}
 use Rattle.series_csv.proofs.Feeding.{ReadsCutSoFar, cut_of}
 use Rattle.series_csv.proofs.Finishing.{ReadsCutEnded, end_of}
 

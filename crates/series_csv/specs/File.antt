@@ -1,7 +1,7 @@
 -- To be believed: what the bytes of a readings file are read as: of a file that may go on, of one that has ended, and of a
 -- whole table.
 use Rattle.std.specs.Prelude.{◌≡◌, ◌⊎◌, ℕ, ◌<◌, ◌≤◌, List, [], ◌∷◌, length, Option, Some, None, Result, Ok, Err}
-use Rattle.record_cut.specs.Ended.{Ended, so_far, ended}
+use Rattle.record_cut.specs.Ended.{so_far, ended}
 use Rattle.record_cut.specs.declared.fault.CutFault.{CutFault}
 use Rattle.rule_file.specs.declared.rules.Rules.{Rules}
 use Rattle.series_rows.specs.Faults.{fault_at, of_the_file}

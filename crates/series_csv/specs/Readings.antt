@@ -1,5 +1,5 @@
 -- To be believed: the readings of a table, in the order of their rows and then of their columns.
-use Rattle.std.specs.Prelude.{ℕ, zero, suc, ◌<◌, ◌≤◌, ◌⊎◌, ◌≡◌, ℤ, ◌<ℤ◌, unsigned_abs, List, [], ◌∷◌, ◌++◌, length, map, Option, None, slice_get}
+use Rattle.std.specs.Prelude.{ℕ, zero, suc, ◌<◌, ◌≤◌, ◌⊎◌, ◌≡◌, ℤ, ◌<ℤ◌, unsigned_abs, List, [], ◌∷◌, ◌++◌, map, Option, None, slice_get}
 use Rattle.std.specs.List.{AllByRecursion}
 use Rattle.fix_point.specs.declared.scale.TheConstants.{MOST_UNITS}
 use Rattle.screen_model.specs.declared.place.Place.{Place}

@@ -1,5 +1,5 @@
 -- For proofs: what a reader's fields have to do with the bytes that it has read. What it answers is in Feeds.
-use Rattle.std.specs.Prelude.{◌≡◌, ℕ, List, [], ◌∷◌, Option, Some, None, Result, Ok, Err}
+use Rattle.std.specs.Prelude.{◌≡◌, ℕ, List, [], ◌∷◌, Option, None, Result, Ok, Err}
 use Rattle.record_cut.specs.Ended.{so_far}
 use Rattle.record_cut.specs.StandsFor as Cut
 use Rattle.rule_file.specs.declared.rules.Rules.{Rules}

@@ -1,9 +1,6 @@
 -- To be believed: what is read of the bytes of a file stays, whatever bytes follow; and each file has an answer.
 use Rattle.std.specs.Prelude.{◌≡◌, ℕ, IsSome, List, ◌++◌, Result}
 use Rattle.rule_file.specs.declared.rules.Rules.{Rules}
-use Rattle.series_rows.specs.Before.{BeforeView}
-use Rattle.series_rows.specs.Header.{HeaderView}
-use Rattle.series_rows.specs.ReadsRow.{ReadsRow}
 use Rattle.series_rows.specs.Row.{RowView}
 use Rattle.series_rows.specs.declared.fault.TableFault.{TableFault}
 use Rattle.series_rows.specs.declared.limits.Limits.{Limits}
@@ -25,20 +22,15 @@ pub record Stays (rules : Rules) (limits : Limits) (bytes more : List ℕ) (read
 abbrev pub ReadStays : Type 0
 ReadStays = (rules : Rules) (limits : Limits) (bytes more : List ℕ) (read : Read) → ReadsSoFar rules limits bytes read → Stays rules limits bytes more read
 
--- each record after the header is a row, or has a reason why it is none
-abbrev pub RecordsHaveAnswers : Rules → Type 0
-RecordsHaveAnswers rules =
-    (header : HeaderView) (limits : Limits) (before : BeforeView) (fields : List (List ℕ)) → (answer : Result RowView TableFault) × ReadsRow rules header limits before fields answer
-
 -- a part of a file, the file that ends there, and a whole file have an answer
 pub record HasAnswers (rules : Rules) (limits : Limits) (bytes : List ℕ) : Type 0 where
   pub so_far : (read : Read) × ReadsSoFar rules limits bytes read
   pub ended : (read : Read) × ReadsEnded rules limits bytes read
   pub table : (answer : Result TableView TableFault) × ReadsTable rules bytes answer
 
--- Where each record has an answer, each file has one.
+-- for all rules, limits and files
 abbrev pub FilesHaveAnswers : Type 0
-FilesHaveAnswers = (rules : Rules) (limits : Limits) (bytes : List ℕ) → RecordsHaveAnswers rules → HasAnswers rules limits bytes
+FilesHaveAnswers = (rules : Rules) (limits : Limits) (bytes : List ℕ) → HasAnswers rules limits bytes
 
 -- and each has only one
 pub record HasOneAnswer (rules : Rules) (limits : Limits) (bytes : List ℕ) : Type 0 where

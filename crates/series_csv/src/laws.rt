@@ -11,11 +11,12 @@ pub fn one_answer()
     series_rows::one_row();
 }
 
-/// Where each record after the header has an answer, each file has one, and each part of a file.
+/// Each readings file has an answer, and each part of one.
 pub fn files_have_answers()
     ensures { FilesHaveAnswers }
 {
     series_rows::a_header();
+    series_rows::a_row();
 }
 
 /// The header and the rows that are read of a part of a file, and a refusal, are the same whatever follows, and

@@ -1,13 +1,12 @@
 -- Columns by their names.
 use Rattle.std.proofs.Common.{◌≡◌, ℕ, zero, suc, ◌+◌, ◌-◌, ◌<◌, ◌≤◌, ◌==◌, ◌≢◌, Bool, true, false, cond, not, ◌&&◌, List, [], ◌∷◌, ◌++◌, length, get_or, drop, Option, Some, None, Result, Ok, Err, refl, sym, ap, subst, ◌∙◌, arith, add-one, append_assoc, append-nil, ◌||◌, ◌⊎◌, inl, inr}
-use Rattle.std.specs.Prelude.{if◌then◌else◌, slice_get, IsSome, option_map}
+use Rattle.std.specs.Prelude.{slice_get, IsSome, option_map}
 use Rattle.std.specs.List.{AllByRecursion, filter, list_any, range_with_len}
 use Rattle.std.proofs.lemmas.List.{drop_more, drop_all}
 use Rattle.std.proofs.lemmas.Bool.Decides.{nat_tests, eqb_tells}
 use Rattle.words.proofs.Lists.{all_weaker}
 use Rattle.rule_file.specs.Numbers.{NamedSensor}
-use Rattle.series_rows.specs.Faults.{fault_at}
-use Rattle.series_rows.specs.Header.{bears, columns_named_from, columns_named, columns_of, field_at, named_by_sensors, other_than, sensor_column, the_only_column, time_column, with_first}
+use Rattle.series_rows.specs.Header.{bears, columns_named_from, columns_named, columns_of, named_by_sensors, other_than, sensor_column, the_only_column, time_column, with_first}
 use Rattle.series_rows.specs.Search.{candidates, is_candidate, is_left_out, led_by, left_out, of_sensors_after}
 use Rattle.series_rows.specs.declared.fault.TableFault.{TableFault}
 

@@ -1,5 +1,5 @@
 -- The cells of the sensor columns, one after the other.
-use Rattle.std.proofs.Common.{◌≡◌, ℕ, zero, suc, ◌+◌, ◌<◌, ◌≤◌, ℤ, List, [], ◌∷◌, ◌++◌, length, get_or, drop, map, Option, Some, None, Result, Ok, Err, inl, inr, refl, sym, ap, subst, ◌∙◌, arith, add-one, append_assoc, append-nil}
+use Rattle.std.proofs.Common.{◌≡◌, ℕ, zero, suc, ◌+◌, ◌<◌, ◌≤◌, ℤ, List, [], ◌∷◌, ◌++◌, length, get_or, drop, Option, Some, None, Ok, Err, inl, inr, refl, sym, ap, subst, ◌∙◌, arith, append_assoc, append-nil}
 use Rattle.std.specs.List.{AllByRecursion}
 use Rattle.std.proofs.lemmas.List.{drop_more, drop_all}
 use Rattle.fix_point.specs.declared.scale.NumFault.{NumFault}
@@ -7,10 +7,9 @@ use Rattle.rule_file.specs.declared.rules.Format.{Format}
 use Rattle.series_rows.specs.Cells.{ReadsCell}
 use Rattle.series_rows.specs.Faults.{fault_at}
 use Rattle.series_rows.specs.Header.{field_at}
-use Rattle.series_rows.specs.Parts.{no_cells, with_last, joined, HasCellsAnswer, IsFirstRefused}
+use Rattle.series_rows.specs.Parts.{no_cells, with_last, joined, IsFirstRefused}
 use Rattle.series_rows.specs.ReadsRow.{AreCells, RefusesFirst, before_cells}
 use Rattle.series_rows.specs.Row.{CellsView, columns, Rise}
-use Rattle.series_rows.specs.declared.cell.RowReading.{RowReading}
 use Rattle.series_rows.specs.declared.fault.TableCause.TheVariants.{Value}
 use Rattle.series_rows.specs.declared.fault.TableFault.{TableFault}
 use Rattle.series_rows.proofs.Rising.{rise_lower}
@@ -72,18 +71,6 @@ pub all_here : (P : ℕ → Type 0) (cols : List ℕ) (i : ℕ) → AllByRecursi
 all_here P [] i all h = absurd (omega arith)
 all_here P (col ∷ cols) zero all h = all.0
 all_here P (col ∷ cols) (suc i) all h = all_here P cols i all.1 (omega arith)
-
--- ---- there is an answer
-
-pub answer_none : (format : Format) (fields : List (List ℕ)) (cols : List ℕ) → length cols ≤ 0 → HasCellsAnswer format fields cols
-answer_none format fields [] h = inl (no_cells, refl)
-answer_none format fields (col ∷ cols) h = absurd (omega (arith, h))
-
-pub answer_more : (format : Format) (fields : List (List ℕ)) (cols : List ℕ) (answer : Result (Option ℤ) NumFault) → 0 < length cols → ReadsCell format (field_at fields (get_or cols 0 0)) answer → HasCellsAnswer format fields (drop 1 cols) → HasCellsAnswer format fields cols
-answer_more format fields [] answer h read rest = absurd (omega (arith, h))
-answer_more format fields (col ∷ cols) (Err fault) h read rest = inr (col, fault, inl (refl, read))
-answer_more format fields (col ∷ cols) (Ok reading) h read (inl (cells, are)) = inl (before_cells col reading cells, (reading, cells, read, are, refl))
-answer_more format fields (col ∷ cols) (Ok reading) h read (inr (at, fault, refuses)) = inr (at, fault, inr (reading, read, refuses))
 
 -- ---- the columns of the readings
 

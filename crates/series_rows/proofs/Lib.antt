@@ -1,4 +1,5 @@
 pub mod AHeader
+pub mod ARow
 pub mod ByName
 pub mod CellOf
 pub mod CellsRead

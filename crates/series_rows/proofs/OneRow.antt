@@ -1,8 +1,7 @@
--- A record has one answer as a row, and always one.
-use Rattle.std.proofs.Common.{◌≡◌, ◌≢◌, ℕ, suc, ◌+◌, ◌<◌, ◌≤◌, ◌⊎◌, inl, inr, true, false, ℤ, ◌<ℤ◌, ◌≤ℤ◌, List, [], ◌∷◌, length, Option, Some, None, Result, Ok, Err, refl, sym, ap, subst, ◌∙◌, arith}
+-- A record has one answer as a row.
+use Rattle.std.proofs.Common.{◌≡◌, ◌≢◌, ℕ, suc, ◌+◌, ◌<◌, ◌≤◌, ◌⊎◌, inl, inr, true, false, ℤ, List, [], ◌∷◌, length, Option, Some, None, Result, Ok, Err, refl, sym, ap, subst, ◌∙◌, arith}
 use Rattle.std.specs.Prelude.{IsTrue, IsFalse}
-use Rattle.std.proofs.lemmas.Int.{ints, by_lt_z}
-use Rattle.std.proofs.lemmas.Bool.{cases_lt}
+use Rattle.std.proofs.lemmas.Int.{ints}
 use Rattle.fix_point.specs.Scaled as Scaled
 use Rattle.fix_point.specs.declared.scale.Extra.{Extra}
 use Rattle.fix_point.specs.declared.scale.NumFault.{NumFault}
@@ -17,13 +16,11 @@ use Rattle.series_rows.specs.Cells.{is_missing, ReadsCell}
 use Rattle.series_rows.specs.Faults.{fault_at}
 use Rattle.series_rows.specs.Header.{HeaderView, field_at, sensor_columns}
 use Rattle.series_rows.specs.Kept.{row_view}
-use Rattle.series_rows.specs.Parts.{HasCellsAnswer}
-use Rattle.series_rows.specs.ReadsRow.{most_rows, AreFew, AreTooMany, IsLater, IsNotLater, AreCells, RefusesFirst, before_cells, Fits, IsTimed, HasCells, IsRow, HasCause, ReadsRow}
+use Rattle.series_rows.specs.ReadsRow.{most_rows, AreFew, AreTooMany, IsLater, IsNotLater, AreCells, RefusesFirst, before_cells, IsTimed, HasCause, ReadsRow}
 use Rattle.series_rows.specs.Row.{RowView, CellsView}
 use Rattle.series_rows.specs.declared.fault.TableCause.{TableCause}
 use Rattle.series_rows.specs.declared.fault.TableCause.TheVariants.{NoHeader, TooManyColumns, NameTwice, NoSuchSensor, Width, Time, TimeNotRising, Value, TooManyRows, TooManyReadings, Cut, FileTooLong, Memory}
 use Rattle.series_rows.specs.declared.fault.TableFault.{TableFault}
-use Rattle.screen_model.specs.declared.limits.TheConstants.{MOST_READINGS}
 use Rattle.series_rows.specs.declared.limits.Limits.{Limits}
 use Rattle.series_rows.specs.declared.limits.Limits.TheVariants.{Whole, Endless}
 
@@ -81,21 +78,6 @@ few_or_many Endless count few many = many
 later_or_not : (last : Option ℤ) (ticks : ℤ) → IsLater last ticks → IsNotLater last ticks → ⊥
 later_or_not None ticks later not_later = not_later
 later_or_not (Some last) ticks later not_later = omega (arith, ints, later, not_later)
-
-counted_whole : (count : ℕ) → (MOST_READINGS < count) ⊎ (count ≤ MOST_READINGS) → AreFew Whole count ⊎ AreTooMany Whole count
-counted_whole count (inl many) = inr many
-counted_whole count (inr few) = inl few
-
-counted : (limits : Limits) (count : ℕ) → AreFew limits count ⊎ AreTooMany limits count
-counted Whole count = counted_whole count (cases_lt MOST_READINGS count)
-counted Endless count = inl tt
-
-in_two : (last ticks : ℤ) → (last <ℤ ticks) ⊎ (ticks ≤ℤ last)
-in_two last ticks = by_lt_z last ticks (λ h. inl h) (λ h. inr h)
-
-ordered : (last : Option ℤ) (ticks : ℤ) → IsLater last ticks ⊎ IsNotLater last ticks
-ordered None ticks = inl tt
-ordered (Some last) ticks = in_two last ticks
 
 -- The checks one after the other: either one refuses, or the next is looked at.
 module _ (rules : Rules) (header : HeaderView) (limits : Limits) (before : BeforeView) (fields : List (List ℕ)) where
@@ -216,43 +198,3 @@ module _ (rules : Rules) (header : HeaderView) (limits : Limits) (before : Befor
 
     pub row_one : (one other : Result RowView TableFault) → ReadsRow rules header limits before fields one → ReadsRow rules header limits before fields other → one ≡ other
     row_one one other p q = room_one one other (in_order one p) (in_order other q)
-
-  -- ---- there always is one
-
-  abbrev HasAnswer : Type 0
-  HasAnswer = (answer : Result RowView TableFault) × ReadsRow rules header limits before fields answer
-
-  refused_for : (col : ℕ) (cause : TableCause) → HasCause rules header limits before fields cause col → HasAnswer
-  refused_for col cause h = (refused col cause, (refl, h))
-
-  after_cells : (ticks : ℤ) (cells : CellsView) → HasCells rules header limits before fields ticks cells → AreFew limits (before.readings + length cells.readings) ⊎ AreTooMany limits (before.readings + length cells.readings) → HasAnswer
-  after_cells ticks cells has (inl few) = (Ok (row_view fields ticks header.time_col cells), record { fields_are = refl; time_col_is = refl; has_cells = has; few = few })
-  after_cells ticks cells has (inr many) = refused_for 0 TooManyReadings ((ticks, cells, has, many), refl)
-
-  after_time : (ticks : ℤ) → IsTimed rules header limits before fields ticks → HasCellsAnswer rules.format fields (sensor_columns header) → HasAnswer
-  after_time ticks timed (inl (cells, are)) = after_cells ticks cells (record { timed = timed; cells_are = are }) (counted limits (before.readings + length cells.readings))
-  after_time ticks timed (inr (col, fault, refuses)) = refused_for col (Value fault) ((ticks, timed), refuses)
-
-  by_order : (fits : Fits rules header limits before fields) (ticks : ℤ) → Ticks.Spells rules.format.form time_text ticks → HasCellsAnswer rules.format fields (sensor_columns header) → IsLater before.ticks ticks ⊎ IsNotLater before.ticks ticks → HasAnswer
-  by_order fits ticks time cells (inl later) = after_time ticks (record { fits = fits; time = time; later = later }) cells
-  by_order fits ticks time cells (inr late) = refused_for header.time_col TimeNotRising (fits, (ticks, time, late), refl)
-
-  by_time : Fits rules header limits before fields → (time : Result ℤ TimeFault) → Ticks.Reads rules.format.form time_text time → HasCellsAnswer rules.format fields (sensor_columns header) → HasAnswer
-  by_time fits (Ok ticks) time cells = by_order fits ticks time cells (ordered before.ticks ticks)
-  by_time fits (Err fault) time cells = refused_for header.time_col (Time fault) (fits, time, refl)
-
-  by_room : length fields ≡ length header.fields → (time : Result ℤ TimeFault) → Ticks.Reads rules.format.form time_text time → HasCellsAnswer rules.format fields (sensor_columns header) → (before.rows < most_rows limits) ⊎ (most_rows limits ≤ before.rows) → HasAnswer
-  by_room width time read cells (inl room) = by_time (record { room = room; width = width }) time read cells
-  by_room width time read cells (inr full) = refused_for 0 TooManyRows (full, refl)
-
-  other_width : (length fields ≢ length header.fields) → (before.rows < most_rows limits) ⊎ (most_rows limits ≤ before.rows) → HasAnswer
-  other_width differs (inl room) = refused_for 0 Width (room, differs, refl)
-  other_width differs (inr full) = refused_for 0 TooManyRows (full, refl)
-
-  -- as wide as the header
-  pub row_answer : length fields ≡ length header.fields → (time : Result ℤ TimeFault) → Ticks.Reads rules.format.form time_text time → HasCellsAnswer rules.format fields (sensor_columns header) → HasAnswer
-  row_answer width time read cells = by_room width time read cells (cases_lt before.rows (most_rows limits))
-
-  -- of another width
-  pub other_answer : (length fields ≢ length header.fields) → HasAnswer
-  other_answer differs = other_width differs (cases_lt before.rows (most_rows limits))

@@ -1,12 +1,12 @@
 -- For proofs: the cells of a row so far, and the first that is refused.
-use Rattle.std.specs.Prelude.{◌≡◌, ◌⊎◌, ℕ, suc, ◌≤◌, ℤ, List, [], ◌∷◌, ◌++◌, Option, Some, None}
+use Rattle.std.specs.Prelude.{◌≡◌, ℕ, suc, ◌≤◌, ℤ, List, [], ◌∷◌, ◌++◌, Option, Some, None}
 use Rattle.fix_point.specs.declared.scale.NumFault.{NumFault}
 use Rattle.time_text.specs.Ticks.{Spells, Refuses}
 use Rattle.rule_file.specs.declared.rules.Format.{Format}
 use Rattle.rule_file.specs.declared.rules.Rules.{Rules}
 use Rattle.series_rows.specs.Before.{BeforeView}
 use Rattle.series_rows.specs.Faults.{fault_at}
-use Rattle.series_rows.specs.ReadsRow.{AreCells, RefusesFirst, IsLater, IsNotLater}
+use Rattle.series_rows.specs.ReadsRow.{RefusesFirst, IsLater, IsNotLater}
 use Rattle.series_rows.specs.Row.{CellsView}
 use Rattle.series_rows.specs.declared.fault.TableCause.{TableCause}
 use Rattle.series_rows.specs.declared.fault.TableCause.TheVariants.{NoHeader, TooManyColumns, NameTwice, NoSuchSensor, Width, Time, TimeNotRising, Value, TooManyRows, TooManyReadings, Cut, FileTooLong, Memory}
@@ -31,11 +31,6 @@ IsWithin width col = (1 ≤ col) × (col ≤ width)
 abbrev pub IsFirstRefused : ℕ → Format → List (List ℕ) → List ℕ → TableFault → Type 0
 IsFirstRefused row format fields cols fault =
     (refusal : NumFault) × (fault ≡ fault_at row fault.col (Value refusal)) × RefusesFirst format fields cols fault.col refusal
-
--- the fields of the columns are cells, or one of them is the first that is refused
-abbrev pub HasCellsAnswer : Format → List (List ℕ) → List ℕ → Type 0
-HasCellsAnswer format fields cols =
-    ((cells : CellsView) × AreCells format fields cols cells) ⊎ ((at : ℕ) × (fault : NumFault) × RefusesFirst format fields cols at fault)
 
 -- the time field is these ticks, later than those of the row before
 abbrev pub IsRowTime : Rules → BeforeView → List ℕ → ℤ → Type 0

@@ -4,7 +4,7 @@ ghost use Rattle.std.specs.List.{AllByRecursion};
 ghost use Rattle.series_rows.specs.Cells.{is_missing, ReadsCell};
 ghost use Rattle.series_rows.specs.Faults.{of_memory};
 ghost use Rattle.series_rows.specs.Kept.{seen_cells};
-ghost use Rattle.series_rows.specs.Parts.{IsWithin, IsFirstRefused, HasCellsAnswer};
+ghost use Rattle.series_rows.specs.Parts.{IsWithin, IsFirstRefused};
 ghost use Rattle.series_rows.specs.ReadsRow.{AreCells};
 
 use crate::cell::RowReading;
@@ -96,16 +96,4 @@ pub(crate) fn read_cells(
         }
     }
     Ok(cells)
-}
-
-/// The fields of these columns are cells, or one of them is the first that is refused. The contract is this law; the call
-/// takes no memory and changes nothing.
-pub(crate) fn cells_have_an_answer(format: &Format, fields: &Fields, columns: &[u32])
-    requires { AllByRecursion (IsWithin (length fields.now)) columns.now }
-    ensures { HasCellsAnswer format.now fields.now columns.now }
-{
-    if let [col, others @ ..] = columns {
-        let _cell = read_cell(format, field_in(fields, *col));
-        cells_have_an_answer(format, fields, others);
-    }
 }

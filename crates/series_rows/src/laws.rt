@@ -7,14 +7,8 @@ ghost use Rattle.series_rows.specs.ReadBack.{RowsAreReadBack};
 ghost use Rattle.series_rows.specs.ReadsRow.{ReadsRow};
 ghost use Rattle.series_rows.specs.Row.{RowView};
 
-use crate::before::RowsBefore;
-use crate::cells::cells_have_an_answer;
-use crate::column::field_in;
 use crate::fault::TableFault;
-use crate::header::Header;
 use crate::limits::Limits;
-use record_cut::Fields;
-use rule_file::Rules;
 
 /// The fields of the first record have one answer only: one header, or one reason why they are none. The contract is this
 /// law; the call does nothing.
@@ -39,15 +33,13 @@ pub fn one_row()
     time_text::one_answer();
 }
 
-/// They always have an answer. The contract is this law; the call takes no memory and changes nothing.
-pub fn a_row(rules: &Rules, header: &Header, limits: Limits, before: RowsBefore, fields: &Fields)
-    ensures { (answer : Result RowView TableFault) × ReadsRow rules.now header.now limits before fields.now answer }
+/// They always have an answer. The contract is this law; the call does nothing.
+pub fn a_row()
+    ensures { (rules : Rules) (header : HeaderView) (limits : Limits) (before : BeforeView) (fields : List (List ℕ)) →
+        (answer : Result RowView TableFault) × ReadsRow rules header limits before fields answer }
 {
-    if fields.width() != header.width() {
-        return;
-    }
-    time_text::an_answer(rules.format.form, field_in(fields, header.time_col()));
-    cells_have_an_answer(&rules.format, fields, header.sensor_columns());
+    fix_point::an_answer();
+    time_text::an_answer();
 }
 
 /// The text of a row with other values is cut into one record, where it is no longer than a record may be, and what it

@@ -1,12 +1,12 @@
 -- A time text has one answer.
 use Rattle.std.proofs.Common.{◌≡◌, ◌≢◌, ℕ, ◌≤◌, ℤ, List, Result, Ok, Err, IfOk, IfErr, length, unsigned_abs, IsUtf8, inl, inr, refl, sym, ap, ◌∙◌, arith}
-use Rattle.jiff.specs.Types.{DateTime}
-use Rattle.jiff.specs.Words.{Error, parse_datetime, date_parts, time_parts, civil_nanos}
+use Rattle.jiff_fmt.specs.Temporal.{DateParts, TimeParts}
+use Rattle.jiff.specs.Words.{Error, parse_datetime}
 use Rattle.fix_point.specs.Scaled as Scaled
 use Rattle.fix_point.specs.declared.scale.NumFault.{NumFault}
 use Rattle.fix_point.specs.declared.scale.Extra.{Extra}
 use Rattle.time_text.specs.Trimmed.{trimmed}
-use Rattle.time_text.specs.Calendar.{with_designator, IsInstant, IsNoInstant, IsCivil, IsNoCivil}
+use Rattle.time_text.specs.Calendar.{with_designator, civil_nanos_of, IsInstant, IsNoInstant, IsCivil, IsNoCivil}
 use Rattle.time_text.specs.Ticks.{IsNumber, NumberRefuses, IsCalendar, CalendarRefuses, IsTrimmedTicks, RefusesTrimmed, Reads}
 use Rattle.time_text.specs.declared.calendar.TheConstants.{LONGEST}
 use Rattle.time_text.specs.declared.form.TheConstants.{MOST_TICKS}
@@ -88,15 +88,10 @@ instant_or_none text one p q = let other = q.1 in cc
 same_success : {P : Type 0} (read : Result P Error) (one other : P) → read ≡ Ok one → read ≡ Ok other → one ≡ other
 same_success read one other p q = cc
 
-same_nanos : (p q : DateTime) → p.date.year ≡ q.date.year → p.date.month ≡ q.date.month → p.date.day ≡ q.date.day → p.time.hour ≡ q.time.hour → p.time.minute ≡ q.time.minute → p.time.second ≡ q.time.second → p.time.subsec_nanosecond ≡ q.time.subsec_nanosecond → civil_nanos p ≡ civil_nanos q
-unfolding civil_nanos
-same_nanos p q year month day hour minute second part = cc
-
 one_civil : (text : List ℕ) (one other : ℤ) → IsCivil text one → IsCivil text other → one ≡ other
 one_civil text one other p q =
-    let same = same_success (parse_datetime text) (date_parts p.shown.date, time_parts p.shown.time) (date_parts q.shown.date, time_parts q.shown.time) p.read q.read in
-    let nanos = same_nanos p.shown q.shown (ap (λ parts. parts.0.year) same) (ap (λ parts. parts.0.month) same) (ap (λ parts. parts.0.day) same) (ap (λ parts. parts.1.hour) same) (ap (λ parts. parts.1.minute) same) (ap (λ parts. parts.1.second) same) (ap (λ parts. parts.1.subsec) same) in
-    p.in_utc ∙ (nanos ∙ sym q.in_utc)
+    let same = same_success (parse_datetime text) (p.date, p.time) (q.date, q.time) p.read q.read in
+    p.in_utc ∙ (ap (λ (parts : DateParts × TimeParts). civil_nanos_of parts.0 parts.1) same ∙ sym q.in_utc)
 
 civil_or_none : (text : List ℕ) (one : ℤ) → IsCivil text one → IsNoCivil text → ⊥
 civil_or_none text one p q = let this = p.read in let other = q.1 in cc

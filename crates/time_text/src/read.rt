@@ -50,10 +50,10 @@ pub fn one_answer()
 }
 
 /// Every text has an answer: a number of ticks, or a reason why it has none.
-pub fn an_answer(form: TimeForm, text: &[u8])
-    ensures { (answer : Result ℤ TimeFault) × Reads form text.now answer }
+pub fn an_answer()
+    ensures { (form : TimeForm) (text : List ℕ) → (answer : Result ℤ TimeFault) × Reads form text answer }
 {
-    let _answer = trimmed_ticks(form, trimmed_text(text));
+    fix_point::an_answer();
 }
 
 /// The ticks of a text without blanks at its ends.

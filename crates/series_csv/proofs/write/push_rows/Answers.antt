@@ -1,5 +1,4 @@
 use Rattle.std.proofs.Common.{refl}
-use Rattle.series_csv.proofs.Writing.{next_row, next_fits, written}
 use Rattle.series_csv.proofs.write.push_rows.Goals as goal
 
 pub loop-row-init : goal.loop-row-init

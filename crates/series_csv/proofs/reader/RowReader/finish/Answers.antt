@@ -1,5 +1,4 @@
 use Rattle.series_csv.proofs.Finishing.{ends_by}
-use Rattle.series_csv.proofs.Feeding.{refused_stands}
 use Rattle.series_csv.proofs.reader.RowReader.finish.Goals as goal
 
 pub returns-clause-ends : goal.returns-clause-ends

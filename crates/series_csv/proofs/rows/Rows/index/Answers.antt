@@ -1,8 +1,7 @@
-use Rattle.std.proofs.Common.{◌≡◌, ◌≢◌, ◌+◌, ◌<◌, ◌≤◌, length, suc, Some, sym, ap, ◌∙◌, subst, arith}
+use Rattle.std.proofs.Common.{◌≡◌, ◌≢◌, ◌+◌, ◌<◌, length, suc, sym, ap, ◌∙◌, subst, arith}
 use Rattle.std.specs.List.{AllByRecursion, slice_get}
 use Rattle.std.proofs.lemmas.Option.{slice_get_within}
 use Rattle.series_rows.specs.declared.cell.RowReading.{RowReading}
-use Rattle.series_csv.specs.Indexed.{starts_from}
 use Rattle.series_csv.specs.Readings.{places_from}
 use Rattle.series_csv.proofs.Indexing.{none_in_header, none_in_no_row, none_in_column, no_column, in_column, has_start, found_at, as_many}
 use Rattle.series_csv.proofs.rows.Rows.index.Goals as goal

@@ -1,4 +1,4 @@
-use Rattle.std.proofs.Common.{Ok, Err, refl, ap, ◌∙◌}
+use Rattle.std.proofs.Common.{Ok, refl, ap, ◌∙◌}
 use Rattle.std.proofs.lemmas.Result.{err_from_is_err_and}
 use Rattle.series_rows.specs.declared.limits.Limits.TheVariants.{Whole}
 use Rattle.series_csv.proofs.WholeTables.{fed_none, fed_event, fed_refused, event_within}
