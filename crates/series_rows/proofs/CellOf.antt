@@ -1,12 +1,11 @@
 -- The cell of a sensor column, reading after reading; and the column that bears a name, column after column.
-use Rattle.std.proofs.Common.{◌≡◌, ◌≢◌, ℕ, ◌+◌, ◌<◌, ◌≤◌, ◌==◌, Bool, true, false, cond, List, [], ◌∷◌, length, get_or, drop, pos, Option, Some, None, refl, sym, ap, ◌∙◌, arith}
+use Rattle.std.proofs.Common.{◌≡◌, ◌≢◌, ℕ, ◌+◌, ◌<◌, ◌≤◌, ◌==◌, Bool, true, false, cond, List, length, get_or, drop, pos, Some, None, ap, ◌∙◌, arith}
 use Rattle.std.specs.Prelude.{if◌then◌else◌}
 use Rattle.std.specs.List.{find, list_any}
 use Rattle.std.proofs.lemmas.Bool.Decides.{nat_tests}
 use Rattle.std.proofs.lemmas.List.{drop_more, drop_all, length-map}
 use Rattle.series_rows.specs.Row.{RowView, columns, sensor_cell}
 use Rattle.series_rows.specs.Kept.{KeepsRow}
-use Rattle.series_rows.specs.declared.cell.Cell.{Cell}
 use Rattle.series_rows.specs.declared.cell.Cell.TheVariants.{Missing, Reading, Text}
 use Rattle.series_rows.specs.declared.cell.RowReading.{RowReading}
 use Rattle.screen_model.specs.declared.limits.TheConstants.{MOST_COLUMNS}

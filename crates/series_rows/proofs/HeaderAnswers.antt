@@ -1,5 +1,5 @@
 -- What each check of the first record says of its answer.
-use Rattle.std.proofs.Common.{◌≡◌, ℕ, ◌<◌, ◌≤◌, inl, inr, List, length, Result, Ok, Err, refl, sym, ap, subst, ◌∙◌}
+use Rattle.std.proofs.Common.{◌≡◌, ℕ, ◌<◌, ◌≤◌, inl, inr, List, length, Ok, Err, refl, sym, ap, subst, ◌∙◌}
 use Rattle.rule_file.specs.declared.rules.Rules.{Rules}
 use Rattle.rule_file.specs.Numbers.{sensors}
 use Rattle.series_rows.specs.Faults.{fault_at}

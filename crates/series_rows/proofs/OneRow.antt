@@ -18,7 +18,7 @@ use Rattle.series_rows.specs.Faults.{fault_at}
 use Rattle.series_rows.specs.Header.{HeaderView, field_at, sensor_columns}
 use Rattle.series_rows.specs.Kept.{row_view}
 use Rattle.series_rows.specs.Parts.{HasCellsAnswer}
-use Rattle.series_rows.specs.ReadsRow.{most_rows, AreFew, AreTooMany, IsLater, IsNotLater, AreCells, RefusesFirst, before_cells, Fits, IsTimed, HasCells, IsRow, HasCause, ReadsRow}
+use Rattle.series_rows.specs.ReadsRow.{most_rows, AreFew, AreTooMany, IsLater, IsNotLater, AreCells, RefusesFirst, before_cells, Fits, IsTimed, HasCells, HasCause, ReadsRow}
 use Rattle.series_rows.specs.Row.{RowView, CellsView}
 use Rattle.series_rows.specs.declared.fault.TableCause.{TableCause}
 use Rattle.series_rows.specs.declared.fault.TableCause.TheVariants.{NoHeader, TooManyColumns, NameTwice, NoSuchSensor, Width, Time, TimeNotRising, Value, TooManyRows, TooManyReadings, Cut, FileTooLong, Memory}

@@ -1,5 +1,5 @@
 -- A row whose readings were replaced by the texts of other values is read as the row with these values.
-use Rattle.std.proofs.Common.{◌≡◌, ◌≢◌, ℕ, zero, suc, ◌+◌, ◌-◌, ◌^◌, ◌<◌, ◌≤◌, ◌==◌, ℤ, List, [], ◌∷◌, ◌++◌, length, get_or, set, map, Option, Some, None, Result, Ok, Err, refl, sym, ap, subst, ◌∙◌, arith, append-nil, length-set, get_or-set_same, get_or-set_other}
+use Rattle.std.proofs.Common.{◌≡◌, ◌≢◌, ℕ, suc, ◌+◌, ◌-◌, ◌^◌, ◌<◌, ◌≤◌, ◌==◌, ℤ, List, [], ◌∷◌, length, set, Option, Some, None, Ok, refl, sym, ap, subst, ◌∙◌, arith, append-nil, length-set, get_or-set_same, get_or-set_other}
 use Rattle.std.specs.Prelude.{IsTrue, unsigned_abs}
 use Rattle.std.specs.List.{AllByRecursion, list_any, range_with_len}
 use Rattle.std.proofs.lemmas.List.{set-set, set_comm}
@@ -12,7 +12,7 @@ use Rattle.words.specs.Separators.{is_separator}
 use Rattle.record_cut.specs.Record.{Nothing}
 use Rattle.record_cut.specs.Records.{Rest, records}
 use Rattle.record_cut.specs.Row.{text_of_row}
-use Rattle.record_cut.specs.RoundTrip.{RoundTrip, text_of_rows}
+use Rattle.record_cut.specs.RoundTrip.{RoundTrip}
 use Rattle.record_cut.specs.declared.cutter.TheConstants.{LONGEST}
 use Rattle.rule_file.specs.declared.rules.Format.{Format}
 use Rattle.rule_file.specs.declared.rules.Rules.{Rules}
@@ -20,17 +20,16 @@ use Rattle.rule_file.specs.Numbers.{sensors}
 use Rattle.series_rows.specs.Before.{BeforeView}
 use Rattle.series_rows.specs.Cells.{ReadsCell}
 use Rattle.series_rows.specs.Header.{HeaderView, IsHeader, field_at, sensor_columns}
-use Rattle.series_rows.specs.Parts.{IsWithin}
-use Rattle.series_rows.specs.ReadBack.{AreValuesOf, readings_with, row_with_values, IsReadBack}
-use Rattle.series_rows.specs.ReadsRow.{AreFew, AreCells, before_cells, Fits, IsTimed, HasCells, IsRow, ReadsRow}
+use Rattle.series_rows.specs.ReadBack.{AreValuesOf, readings_with, IsReadBack}
+use Rattle.series_rows.specs.ReadsRow.{AreFew, AreCells, before_cells, HasCells, ReadsRow}
 use Rattle.series_rows.specs.Row.{RowView, CellsView, columns, Rise}
-use Rattle.series_rows.specs.Texts.{replaced, fields_with, row_text_with}
+use Rattle.series_rows.specs.Texts.{replaced}
 use Rattle.series_rows.specs.declared.cell.RowReading.{RowReading}
 use Rattle.series_rows.specs.declared.limits.Limits.{Limits}
 use Rattle.series_rows.proofs.ByName.{apart_from_time, left_apart, time_within}
 use Rattle.series_rows.proofs.CellsRead.{all_columns, readings_rise}
 use Rattle.series_rows.proofs.Plain.{plain_text, not_missing}
-use Rattle.series_rows.proofs.Rising.{rise_above, rise_lower, rise_range, rise_within}
+use Rattle.series_rows.proofs.Rising.{rise_lower, rise_range}
 use Rattle.series_rows.proofs.RowTexts.{length-replaced}
 
 -- the text of a number is read as that number

@@ -1,18 +1,15 @@
 -- What each check of a record says of its answer.
-use Rattle.std.proofs.Common.{◌≡◌, ◌≢◌, ℕ, suc, ◌+◌, ◌<◌, ◌≤◌, ℤ, List, length, Option, Result, Ok, Err, refl, sym, ap, subst, ◌∙◌, arith}
+use Rattle.std.proofs.Common.{◌≡◌, ℕ, suc, ◌+◌, ◌≤◌, ℤ, List, length, Ok, Err, refl, sym, ap, subst, ◌∙◌, arith}
 use Rattle.std.specs.List.{AllByRecursion}
-use Rattle.words.specs.Answers.{UnlessMemory}
-use Rattle.fix_point.specs.declared.scale.NumFault.{NumFault}
-use Rattle.time_text.specs.Ticks as Ticks
 use Rattle.rule_file.specs.declared.rules.Format.{Format}
 use Rattle.rule_file.specs.declared.rules.Rules.{Rules}
 use Rattle.series_rows.specs.Before.{BeforeView}
-use Rattle.series_rows.specs.Faults.{fault_at, of_memory}
+use Rattle.series_rows.specs.Faults.{fault_at}
 use Rattle.series_rows.specs.Header.{HeaderView, field_at, sensor_columns}
 use Rattle.series_rows.specs.Kept.{row_view, KeepsRow}
-use Rattle.series_rows.specs.Parts.{IsWithin, IsFirstRefused, IsRowTime, IsTimeFault, RefusesTime}
-use Rattle.series_rows.specs.ReadsRow.{most_rows, AreFew, AreTooMany, AreCells, Fits, IsTimed, HasCells, HasCause, ReadsRow}
-use Rattle.series_rows.specs.Row.{RowView, CellsView, columns, Rise}
+use Rattle.series_rows.specs.Parts.{IsWithin, IsFirstRefused, IsTimeFault, RefusesTime}
+use Rattle.series_rows.specs.ReadsRow.{AreFew, AreCells, Fits, IsTimed, HasCells, HasCause, ReadsRow}
+use Rattle.series_rows.specs.Row.{RowView, CellsView, Rise}
 use Rattle.series_rows.specs.declared.fault.TableCause.{TableCause}
 use Rattle.series_rows.specs.declared.fault.TableCause.TheVariants.{NoHeader, TooManyColumns, NameTwice, NoSuchSensor, Width, Time, TimeNotRising, Value, TooManyRows, TooManyReadings, Cut, FileTooLong, Memory}
 use Rattle.series_rows.specs.declared.fault.TableFault.{TableFault}

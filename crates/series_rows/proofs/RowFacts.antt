@@ -1,6 +1,6 @@
 -- What follows from that a record is a row.
-use Rattle.std.proofs.Common.{◌≡◌, ℕ, ◌+◌, ◌<◌, ◌≤◌, ◌==◌, List, length, get_or, sym, ap, subst, arith}
-use Rattle.std.specs.List.{AllByRecursion, find, list_any, range_with_len}
+use Rattle.std.proofs.Common.{◌≡◌, ℕ, ◌<◌, ◌==◌, List, length, get_or, sym, ap, subst, arith}
+use Rattle.std.specs.List.{AllByRecursion, find, list_any}
 use Rattle.rule_file.specs.declared.rules.Rules.{Rules}
 use Rattle.series_rows.specs.Before.{BeforeView}
 use Rattle.series_rows.specs.Header.{HeaderView, bears, column_of, field_at, sensor_columns}

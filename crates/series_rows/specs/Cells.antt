@@ -1,5 +1,5 @@
 -- To be believed: what a field of a sensor column is read as: no reading, a reading, or why it is neither.
-use Rattle.std.specs.Prelude.{◌≡◌, ℕ, ℤ, Bool, IsTrue, IsFalse, List, [], ◌∷◌, Option, Some, None, Result, Ok, Err, codes}
+use Rattle.std.specs.Prelude.{ℕ, ℤ, Bool, IsTrue, IsFalse, List, [], ◌∷◌, Option, Some, None, Result, Ok, Err, codes}
 use Rattle.std.specs.List.{list_any}
 use Rattle.std.specs.Str.{bytes_eq}
 use Rattle.fix_point.specs.Scaled.{Spells, Refuses}

@@ -1,4 +1,4 @@
-use Rattle.std.proofs.Common.{◌≡◌, Some, Ok, Err, sym, ap, ◌∙◌, arith}
+use Rattle.std.proofs.Common.{sym, ◌∙◌, arith}
 use Rattle.std.proofs.lemmas.Result.{err_from_is_err_and}
 use Rattle.rule_file.specs.Numbers.{sensors, seen_sensor}
 use Rattle.series_rows.proofs.ByName.{led_more, led_fault, led_all, some_sensor, sensor_at}

@@ -1,4 +1,4 @@
-use Rattle.std.proofs.Common.{◌≡◌, Err, refl, sym, ap, arith}
+use Rattle.std.proofs.Common.{Err, sym, ap, arith}
 use Rattle.std.proofs.lemmas.Result.{err_from_is_err_and}
 use Rattle.series_rows.proofs.HeaderAnswers.{too_many_fields, time_fails, sensor_fails, header_read, header_keeps}
 use Rattle.series_rows.proofs.first_record.header_of.Goals as goal

@@ -1,4 +1,4 @@
-use Rattle.std.proofs.Common.{sym, ap, arith}
+use Rattle.std.proofs.Common.{sym, arith}
 use Rattle.series_rows.proofs.CellOf.{no_reading}
 use Rattle.series_rows.proofs.RowTexts.{head_none, head_some}
 use Rattle.series_rows.proofs.text.is_next.Goals as goal

@@ -1,4 +1,4 @@
-use Rattle.std.proofs.Common.{◌≡◌, ◌++◌, true, false, length, drop, sym, ap, ◌∙◌, subst, arith}
+use Rattle.std.proofs.Common.{◌≡◌, ◌++◌, true, false, length, drop, sym, ap, ◌∙◌}
 use Rattle.series_rows.specs.Columns.{is_at, text_of_column}
 use Rattle.series_rows.specs.Header.{field_at}
 use Rattle.series_rows.proofs.RowTexts.{field_written, value_fits, value_written}
