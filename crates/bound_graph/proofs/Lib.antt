@@ -4,7 +4,6 @@ pub mod Cycles
 pub mod Degrees
 pub mod Groups
 pub mod Leaving
-mod Members
 pub mod Nodes
 pub mod Rows
 pub mod Values

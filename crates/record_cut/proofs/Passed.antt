@@ -8,7 +8,7 @@ use Rattle.record_cut.specs.Quotes.{holds_quote}
 use Rattle.record_cut.specs.Row.{holds_special}
 use Rattle.record_cut.specs.Records.{by_record, records_from}
 use Rattle.record_cut.specs.Resumed.{from_plain, from_quoted, Fits}
-use Rattle.record_cut.specs.Moves.{in_unquoted, is_unquoted, RunsTo, Opens}
+use Rattle.record_cut.specs.Moves.{in_unquoted, is_unquoted, Opens}
 use Rattle.record_cut.specs.StandsFor.{StandsFor, HasBegun}
 use Rattle.record_cut.specs.Feeds.{GoesOn, EndsRecord}
 use Rattle.record_cut.specs.declared.fault.CutFault.{CutFault}
@@ -22,7 +22,7 @@ use Rattle.record_cut.proofs.Grammar.{other_byte, plain-other, quoted-other}
 use Rattle.record_cut.proofs.Runs.{ordinary, others-ordinary, no_quote-first, others-no_quote}
 use Rattle.record_cut.proofs.Steps.{plain-grows, quoted-grows, field-plain, plain-at_sep, plain-at_line_feed}
 use Rattle.record_cut.proofs.Openings.{record-at_other}
-use Rattle.record_cut.proofs.Standing.{Resumes, OpensAs, goes-on, run-step, fed-to, fed-end}
+use Rattle.record_cut.proofs.Standing.{Resumes, RunsTo, OpensAs, goes-on, run-step, fed-to, fed-end}
 
 same_draft : (old new : Drafted) → new.fields ≡ old.fields → new.field ≡ old.field → old ≡ new
 same_draft old new e f = ap (λ fields. record { fields = fields; field = old.field }) (sym e) ∙ ap (λ field. record { fields = new.fields; field = field }) (sym f)

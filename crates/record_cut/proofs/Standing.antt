@@ -7,7 +7,7 @@ use Rattle.record_cut.specs.Record.{Whole, Bad}
 use Rattle.record_cut.specs.Records.{Cut, Fault, Rest, with_records, only, by_record, records_from, records}
 use Rattle.record_cut.specs.Ended.{Ended, fault_at_byte, so_far_of, so_far}
 use Rattle.record_cut.specs.Resumed.{continued, resumed, Fits, FitsPlace}
-use Rattle.record_cut.specs.Moves.{GoesTo, Moves, RunsTo, Opens}
+use Rattle.record_cut.specs.Moves.{GoesTo, Moves, Opens}
 use Rattle.record_cut.specs.StandsFor.{StandsFor, HasBegun}
 use Rattle.record_cut.specs.Feeds.{GoesOn, EndsRecord, FailsAt, Feeds}
 use Rattle.record_cut.specs.declared.fault.CutFault.{CutFault}
@@ -32,6 +32,10 @@ pub record Stands (sep : ℕ) (phase : Phase) (draft : Drafted) (count : ℕ) (b
 -- the piece adds these records, and then comes what the new phase makes of the rest
 abbrev pub Resumes : ℕ → Phase → Drafted → ℕ → List ℕ → List (List (List ℕ)) → Phase → Drafted → ℕ → Type 0
 Resumes sep phase draft count piece added next new size = (all : ℕ) (more : List ℕ) → resumed sep phase draft count all (piece ++ more) ≡ with_records added (resumed sep next new size all more)
+
+-- by the grammar, these bytes all belong to the field, and the next one stands at this place
+abbrev pub RunsTo : ℕ → Place → List ℕ → Place → Type 0
+RunsTo sep place run next = (old new : Drafted) → FitsPlace place old → new.fields ≡ old.fields → new.field ≡ old.field ++ run → FitsPlace next new × ((more : List ℕ) → continued sep place old (run ++ more) ≡ continued sep next new more)
 
 -- the fault stands at the byte that comes next
 abbrev pub StopsAt : ℕ → Phase → Drafted → ℕ → ℕ → CutFault → Type 0

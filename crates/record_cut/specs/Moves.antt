@@ -74,10 +74,6 @@ is_unquoted RecordCr = false
 is_unquoted (Inside place) = in_unquoted (Inside place)
 is_unquoted (Refused fault) = false
 
--- by the grammar, these bytes all belong to the field, and the next one stands at this place
-abbrev pub RunsTo : ℕ → Place → List ℕ → Place → Type 0
-RunsTo sep place run next = (old new : Drafted) → FitsPlace place old → new.fields ≡ old.fields → new.field ≡ old.field ++ run → FitsPlace next new × ((more : List ℕ) → continued sep place old (run ++ more) ≡ continued sep next new more)
-
 -- by the grammar, the byte after these that began the record belongs to the record itself, may yet be
 -- something else, or ends an empty line or a mark
 abbrev pub Opens : ℕ → Phase → Drafted → ℕ → ℕ → Opening → Type 0

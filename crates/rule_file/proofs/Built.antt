@@ -1,5 +1,5 @@
 -- What was read from the tables of a file means rules.
-use Rattle.std.proofs.Common.{◌≡◌, ◌≢◌, ℕ, ◌+◌, ◌≤◌, ℤ, pos, negsuc, neg_ℤ, ◌≤ℤ◌, List, [], ◌∷◌, length, Option, Some, None, refl, sym, ap, ◌∙◌, subst, unsigned_abs, arith}
+use Rattle.std.proofs.Common.{◌≡◌, ℕ, ◌+◌, ◌≤◌, ℤ, pos, negsuc, ◌≤ℤ◌, List, [], ◌∷◌, length, Option, Some, None, refl, sym, ap, ◌∙◌, subst, arith}
 use Rattle.std.specs.Prelude.{Ok, IsSome}
 use Rattle.std.specs.List.{AllByRecursion, AllZip}
 use Rattle.std.proofs.lemmas.Bool.{false≢true}
@@ -12,8 +12,7 @@ use Rattle.rule_keys.specs.declared.key.TableKind.{TableKind}
 use Rattle.rule_keys.specs.declared.key.TableKind.TheVariants as table
 use Rattle.rule_keys.specs.declared.read.Scale.{Scale}
 use Rattle.rule_keys.specs.Entries.{Fit, number_at, name_at, form_at, separator_at, extra_at}
-use Rattle.rule_keys.specs.Keys.{keys_of, checks_of}
-use Rattle.rule_keys.specs.Table.{Reads, Passes}
+use Rattle.rule_keys.specs.Keys.{keys_of}
 use Rattle.rule_keys.proofs.Fits.{fits_if_read}
 use Rattle.rule_file.specs.declared.rules.Format.{Format}
 use Rattle.rule_file.specs.declared.rules.SpeedRule.{SpeedRule}
@@ -27,7 +26,7 @@ use Rattle.rule_file.specs.declared.rules.Rules.{Rules}
 use Rattle.rule_file.specs.declared.rules.TheConstants.{MOST_RULES}
 use Rattle.rule_file.specs.Document.{ReadsRules}
 use Rattle.rule_file.specs.Limits.{AreInReach}
-use Rattle.rule_file.specs.Meaning.{Entries, of_kind, scale_of, IsFormatOf, IsSpeed, IsSwing, IsDrift, IsRange, IsTrust, IsWeight, IsBetween, AreRulesOf}
+use Rattle.rule_file.specs.Meaning.{Entries, of_kind, IsFormatOf, IsSpeed, IsSwing, IsDrift, IsRange, IsTrust, IsWeight, IsBetween, AreRulesOf}
 use Rattle.rule_file.proofs.Checks.{reads_passes}
 use Rattle.rule_file.proofs.Facts.{format_limits, are_rates, speed_rates, speed_window, speed_sensor, speed_price, swing_sensor, swing_most, swing_window, swing_price, drift_sensor, drift_rates, drift_over, drift_window, drift_price, range_sensor, range_min, range_max, range_from, range_to, range_price, trust_sensor, trust_from, trust_to, weight_sensor, weight_weight, weight_from, weight_to, between_first, between_second, between_min, between_max, between_price, price_held}
 use Rattle.rule_file.proofs.ByKind.{of_speeds, of_swings, of_drifts, of_ranges, of_trusts, of_weights, of_betweens, no_more}

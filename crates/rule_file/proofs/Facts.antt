@@ -1,5 +1,5 @@
 -- What the entries of a table are known to be: each number within the limits of its key.
-use Rattle.std.proofs.Common.{◌≡◌, ◌≤◌, ℕ, ◌^◌, ℤ, pos, neg_ℤ, ◌≤ℤ◌, IsTrue, List, [], ◌∷◌, Option, Some, inl, inr, refl, sym, subst, ◌∙◌, arith, w64, to_z, of_z, FitsSigned}
+use Rattle.std.proofs.Common.{◌≡◌, ◌≤◌, ℕ, ℤ, pos, neg_ℤ, ◌≤ℤ◌, IsTrue, List, [], ◌∷◌, Some, inl, inr, refl, sym, subst, ◌∙◌, arith, w64, to_z, of_z, FitsSigned}
 use Rattle.std.specs.Prelude.{IsSome}
 use Rattle.std.specs.List.{AllByRecursion}
 use Rattle.std.proofs.lemmas.Int.{ints, to_z-of_z}

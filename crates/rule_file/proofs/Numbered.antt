@@ -1,6 +1,7 @@
 -- The rules of each kind, and the sensors of rules, by their places in the order of the numbers.
-use Rattle.std.proofs.Common.{◌≡◌, ℕ, zero, suc, ◌+◌, ◌-◌, ◌<◌, ◌≤◌, ◌==◌, Bool, if◌then◌else◌, List, [], ◌∷◌, ◌++◌, length, map, Option, Some, None, Bor, inl, inr, refl, sym, ap, ◌∙◌, arith, append_assoc}
+use Rattle.std.proofs.Common.{◌≡◌, ℕ, zero, suc, ◌+◌, ◌-◌, ◌<◌, ◌≤◌, ◌==◌, if◌then◌else◌, List, [], ◌∷◌, ◌++◌, length, map, Option, Some, None, Bor, inl, inr, refl, sym, ap, ◌∙◌, arith, append_assoc}
 use Rattle.std.specs.Prelude.{slice_get, option_map}
+use Rattle.std.specs.List.{AllByRecursion}
 use Rattle.std.specs.Option.{option_copied}
 use Rattle.std.proofs.lemmas.Bool.{cases_lt}
 use Rattle.std.proofs.lemmas.List.{length-append, length-map}
@@ -12,7 +13,7 @@ use Rattle.rule_file.specs.declared.rules.BetweenRule.{BetweenRule}
 use Rattle.rule_file.specs.declared.rules.Rules.{Rules}
 use Rattle.rule_file.specs.Count.{count_of}
 use Rattle.rule_file.specs.Numbers.{Rule, speed, swing, drift, range, trust, weight, between, rules_in_order, rule_of, NamedSensor, sensor_names, sensors_of, sensors_from, sensors, count_before, AreNumbered, StandFrom, SensorsStandFrom, seen_rule}
-use Rattle.rule_file.specs.Single.{first_name, AreSingle}
+use Rattle.rule_file.specs.Single.{first_name}
 
 -- ---- lists
 
@@ -192,6 +193,10 @@ single_is n (range rule) one = refl
 single_is n (trust rule) one = refl
 single_is n (weight rule) one = refl
 single_is n (between rule) one = absurd (omega (arith, one))
+
+-- rules that speak of one sensor each
+abbrev AreSingle : List Rule → Type 0
+AreSingle rules = AllByRecursion (λ rule. length (sensor_names rule) ≡ 1) rules
 
 singles_length : (n : ℕ) (some : List Rule) → AreSingle some → length (sensors_from n some) ≡ length some
 singles_length n [] all = refl

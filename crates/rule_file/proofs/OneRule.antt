@@ -1,6 +1,6 @@
 -- The entries of a table mean one rule.
 use mathlib.Core.HLevel.{is_prop→PathP}
-use Rattle.std.proofs.Common.{◌≡◌, ◌≢◌, ◌≤◌, ◌≤ℤ◌, ℕ, ℤ, pos, List, [], ◌∷◌, Option, Some, refl, sym, ap, ◌∙◌}
+use Rattle.std.proofs.Common.{◌≡◌, ◌≢◌, ◌≤◌, ◌≤ℤ◌, pos, List, [], ◌∷◌, Option, Some, refl, sym, ◌∙◌}
 use Rattle.std.specs.List.{All, AllZip}
 use Rattle.std.proofs.Props.{props}
 use Rattle.fix_point.specs.declared.rate.Rate.{Rate}

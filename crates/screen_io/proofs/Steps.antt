@@ -4,7 +4,7 @@ use Rattle.std.proofs.Math.Seq.{take-add}
 use Rattle.std.proofs.lemmas.List.{take_all, take-append-le, take-append-drop, length-take-le, nil_from_length, drop-drop}
 use Rattle.std.specs.Prelude.{◌≡◌, min}
 use Rattle.std.specs.Prelude.{Option, Some, None}
-use Rattle.screen_io.specs.Source.{Takes, IsAtEnd, Reads}
+use Rattle.screen_io.specs.Source.{Takes, IsAtEnd, TakesInto}
 use Rattle.screen_io.specs.Sink.{Gains}
 use Rattle.std.specs.Io.KnownBytes.{Keeps}
 
@@ -21,13 +21,13 @@ Takes-more (Some left) b c xs ys s t =
     (u.0, s.1 ∙ ap (λ rest. xs ++ rest) u.1 ∙ sym (append_assoc xs ys u.0), u.2)
 
 -- some bytes were taken, and then the bytes of a read, whose buffer may stand in a larger one
-pub Reads-more :
+pub TakesInto-more :
     (a b c : Option (List ℕ)) (bytes buffer after : List ℕ) (count : ℕ) →
     Takes a bytes b →
     count ≤ length buffer →
-    Reads b c buffer count →
+    TakesInto b c buffer count →
     Takes a (bytes ++ take count (buffer ++ after)) c
-Reads-more a b c bytes buffer after count s bound read =
+TakesInto-more a b c bytes buffer after count s bound read =
     rw take-append-le (Takes-more a b c bytes (take count buffer) s read.taken)
 
 -- where nothing is left, a call that takes nothing leaves nothing
@@ -58,13 +58,13 @@ Gains-step a b c bytes done count s t =
     rw take-add (Gains-more a b c (take done bytes) (take count (drop done bytes)) s u)
 
 -- a read gives the front of what is left, as much as fits, and goes on after it
-pub Reads-front :
+pub TakesInto-front :
     (bytes shown copied buffer : List ℕ) (position count : ℕ) →
     shown ≡ bytes →
     copied ≡ take count (take (length shown - position) (drop position shown)) →
     count ≡ min (length (take (length shown - position) (drop position shown))) (length buffer) →
-    Reads (Some (drop position bytes)) (Some (drop (position + count) bytes)) (copied ++ drop count buffer) count
-Reads-front bytes shown copied buffer position count same copies counts =
+    TakesInto (Some (drop position bytes)) (Some (drop (position + count) bytes)) (copied ++ drop count buffer) count
+TakesInto-front bytes shown copied buffer position count same copies counts =
     let left : List ℕ = drop position bytes in
     let whole : take (length shown - position) (drop position shown) ≡ left =
     rw same (take_all (length bytes - position) left (omega (arith, length-drop position bytes))) in
@@ -81,13 +81,13 @@ Reads-front bytes shown copied buffer position count same copies counts =
     }
 
 -- a read into the front of a buffer, which has room where the buffer has, is a read into the buffer
-pub Reads-within :
+pub TakesInto-within :
     (before now : Option (List ℕ)) (front after : List ℕ) (count : ℕ) →
     count ≤ length front →
     (0 < length (front ++ after) → 0 < length front) →
-    Reads before now front count →
-    Reads before now (front ++ after) count
-Reads-within before now front after count bound room read = record {
+    TakesInto before now front count →
+    TakesInto before now (front ++ after) count
+TakesInto-within before now front after count bound room read = record {
   taken = rw take-append-le read.taken;
   at_end = λ none wanted. read.at_end none (room wanted);
 }

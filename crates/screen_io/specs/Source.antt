@@ -12,8 +12,8 @@ abbrev pub IsAtEnd : Option (List ℕ) → Type 0
 IsAtEnd None = Unit {0}
 IsAtEnd (Some left) = left ≡ []
 
--- A read of count bytes: they stand at the front of the buffer, and none came into a buffer with
--- room only where the source was at its end.
-pub record Reads (before now : Option (List ℕ)) (buffer : List ℕ) (count : ℕ) : Type 0 where
+-- A read took so many bytes into the buffer: they stand at its front, and none came into a buffer
+-- with room only where the source was at its end.
+pub record TakesInto (before now : Option (List ℕ)) (buffer : List ℕ) (count : ℕ) : Type 0 where
   pub taken : Takes before (take count buffer) now
   pub at_end : count ≡ 0 → 0 < length buffer → IsAtEnd before

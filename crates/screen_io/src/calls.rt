@@ -11,7 +11,7 @@ pub struct Calls {
 
 impl Calls {
     ghost use Rattle.std.specs.Prelude.{◌≡◌, ◌≤◌, ◌↔◌, IsErr, OnOk, OnErr};
-    ghost use Rattle.screen_io.specs.Faults.{HasCause};
+    ghost use Rattle.screen_io.specs.Faults.{CountsFailure};
     ghost use Rattle.screen_io.specs.Calls.{one_more, FailsNext, IsCounted, IsNew};
 
     /// No call was made yet; those whose numbers stand in `failing`, counted from 1, will fail.
@@ -36,7 +36,7 @@ impl Calls {
     pub fn begin(&mut self) -> Result<(), Failed>
         ensures fails { IsErr result ↔ FailsNext self.old }
         ensures counted { IsCounted self.old self.new }
-        ensures cause { HasCause self.old.faults self.new.faults result }
+        ensures cause { CountsFailure self.old.faults self.new.faults result }
         ensures succeeded { OnOk result (self.new.faults ≡ self.old.faults) }
         ensures failed { OnErr result (self.new.faults ≡ one_more self.old.faults) }
     {

@@ -1,6 +1,6 @@
 //! A source in memory that never fails.
 ghost use Rattle.std.specs.Prelude.{◌≡◌, ◌≤◌, min, length, Some};
-ghost use Rattle.screen_io.specs.Source.{Reads};
+ghost use Rattle.screen_io.specs.Source.{TakesInto};
 
 use crate::source::{Failed, Source};
 use std::marker::Model;
@@ -35,7 +35,7 @@ impl HonestSource {
     /// Moves the next bytes into `buf` and answers how many, as many as fit.
     pub(crate) fn give(&mut self, buf: &mut [u8]) -> usize
         ensures amount { result ≡ min (length self.old) (length buf.old) }
-        ensures bytes { Reads (Some self.old) (Some self.new) buf.new result }
+        ensures bytes { TakesInto (Some self.old) (Some self.new) buf.new result }
     {
         let left = &self.bytes[self.position..];
         let count = left.len().min(buf.len());

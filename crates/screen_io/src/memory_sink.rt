@@ -64,7 +64,7 @@ impl MemSink {
 impl Sink for MemSink {
     ghost use Rattle.std.specs.Prelude.{◌≡◌, ◌+◌, ◌<◌, ◌≤◌, ◌⊎◌, ◌↔◌, min, length, take, Some, IfOk, OnOk, OnErr, IsErr};
     ghost use Rattle.screen_io.specs.Calls.{FailsNext, IsCounted, one_more};
-    ghost use Rattle.screen_io.specs.Faults.{HasCause};
+    ghost use Rattle.screen_io.specs.Faults.{CountsFailure};
     ghost use Rattle.screen_io.specs.Memory.{sink_held, sink_room, sink_most, sink_calls, sink_faults};
     ghost use Rattle.screen_io.specs.Sink.{Gains};
 
@@ -77,7 +77,7 @@ impl Sink for MemSink {
         ensures some { IfOk result (λ count. 0 < length bytes.now → 0 < count) }
         ensures gains { IfOk result (λ count. Gains (Some (sink_held self.old)) (take count bytes.now) (Some (sink_held self.new))) }
         ensures kept { OnErr result (sink_held self.new ≡ sink_held self.old) }
-        ensures cause { HasCause (sink_faults self.old) (sink_faults self.new) result }
+        ensures cause { CountsFailure (sink_faults self.old) (sink_faults self.new) result }
         ensures unfailed { OnOk result (sink_faults self.new ≡ sink_faults self.old) }
 
         ensures amount { IfOk result (λ count. count ≡ min (length bytes.now) (min (sink_most self.old) (sink_room self.old))) }
@@ -99,7 +99,7 @@ impl Sink for MemSink {
 
     fn finish(&mut self) -> Result<(), Failed>
         ensures kept { Some (sink_held self.new) ≡ Some (sink_held self.old) }
-        ensures cause { HasCause (sink_faults self.old) (sink_faults self.new) result }
+        ensures cause { CountsFailure (sink_faults self.old) (sink_faults self.new) result }
         ensures unfailed { OnOk result (sink_faults self.new ≡ sink_faults self.old) }
 
         ensures fails { IsErr result ↔ FailsNext (sink_calls self.old) }

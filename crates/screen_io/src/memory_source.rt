@@ -46,9 +46,9 @@ impl MemSource {
 impl Source for MemSource {
     ghost use Rattle.std.specs.Prelude.{◌≡◌, ◌≤◌, ◌↔◌, min, length, Some, IfOk, OnOk, OnErr, IsErr};
     ghost use Rattle.screen_io.specs.Calls.{FailsNext, IsCounted, one_more};
-    ghost use Rattle.screen_io.specs.Faults.{HasCause};
+    ghost use Rattle.screen_io.specs.Faults.{CountsFailure};
     ghost use Rattle.screen_io.specs.Memory.{source_left, source_most, source_calls, source_faults};
-    ghost use Rattle.screen_io.specs.Source.{Reads};
+    ghost use Rattle.screen_io.specs.Source.{TakesInto};
 
     ghost left = { λ source. Some (source_left source) };
 
@@ -56,9 +56,9 @@ impl Source for MemSource {
 
     fn read(&mut self, buf: &mut [u8]) -> Result<usize, Failed>
         ensures bound { IfOk result (λ count. count ≤ length buf.new) }
-        ensures bytes { IfOk result (λ count. Reads (Some (source_left self.old)) (Some (source_left self.new)) buf.new count) }
+        ensures bytes { IfOk result (λ count. TakesInto (Some (source_left self.old)) (Some (source_left self.new)) buf.new count) }
         ensures kept { OnErr result (source_left self.new ≡ source_left self.old) }
-        ensures cause { HasCause (source_faults self.old) (source_faults self.new) result }
+        ensures cause { CountsFailure (source_faults self.old) (source_faults self.new) result }
         ensures unfailed { OnOk result (source_faults self.new ≡ source_faults self.old) }
 
         ensures amount { IfOk result (λ count. count ≡ min (length (source_left self.old)) (min (length buf.new) (source_most self.old))) }

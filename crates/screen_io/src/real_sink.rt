@@ -103,7 +103,7 @@ impl<R: Runtime> RealSink<R> {
 
 impl<R: Runtime> Sink for RealSink<R> {
     ghost use Rattle.std.specs.Prelude.{◌≡◌, ◌<◌, ◌≤◌, length, None, Ok, IfOk, IsOk, OnOk};
-    ghost use Rattle.screen_io.specs.Faults.{HasCause};
+    ghost use Rattle.screen_io.specs.Faults.{CountsFailure};
     ghost use Rattle.screen_io.specs.Target.{NoTarget};
 
     ghost held = { λ _. None };
@@ -113,7 +113,7 @@ impl<R: Runtime> Sink for RealSink<R> {
     fn write(&mut self, bytes: &[u8]) -> Result<usize, Failed>
         ensures bound { IfOk result (λ count. count ≤ length bytes.now) }
         ensures some { IfOk result (λ count. 0 < length bytes.now → 0 < count) }
-        ensures cause { HasCause self.old.faults self.new.faults result }
+        ensures cause { CountsFailure self.old.faults self.new.faults result }
         ensures unfailed { OnOk result (self.new.faults ≡ self.old.faults) }
 
         ensures target { self.new.target ≡ self.old.target }
@@ -126,7 +126,7 @@ impl<R: Runtime> Sink for RealSink<R> {
     }
 
     fn finish(&mut self) -> Result<(), Failed>
-        ensures cause { HasCause self.old.faults self.new.faults result }
+        ensures cause { CountsFailure self.old.faults self.new.faults result }
         ensures unfailed { OnOk result (self.new.faults ≡ self.old.faults) }
 
         ensures target { self.new.target ≡ self.old.target }

@@ -79,7 +79,7 @@ impl<R: Runtime> RealSource<R> {
 
 impl<R: Runtime> Source for RealSource<R> {
     ghost use Rattle.std.specs.Prelude.{◌≡◌, ◌≤◌, length, None, Ok, IfOk, OnOk};
-    ghost use Rattle.screen_io.specs.Faults.{HasCause};
+    ghost use Rattle.screen_io.specs.Faults.{CountsFailure};
     ghost use Rattle.screen_io.specs.Target.{NoTarget};
 
     ghost left = { λ _. None };
@@ -88,7 +88,7 @@ impl<R: Runtime> Source for RealSource<R> {
 
     fn read(&mut self, buf: &mut [u8]) -> Result<usize, Failed>
         ensures bound { IfOk result (λ count. count ≤ length buf.new) }
-        ensures cause { HasCause self.old.faults self.new.faults result }
+        ensures cause { CountsFailure self.old.faults self.new.faults result }
         ensures unfailed { OnOk result (self.new.faults ≡ self.old.faults) }
 
         ensures target { self.new.target ≡ self.old.target }

@@ -1,6 +1,6 @@
 //! What a sink of bytes promises.
 ghost use Rattle.std.specs.Prelude.{◌≡◌, ◌<◌, ◌≤◌, List, ℕ, length, take, Option, IfOk, OnOk, OnErr};
-ghost use Rattle.screen_io.specs.Faults.{HasCause};
+ghost use Rattle.screen_io.specs.Faults.{CountsFailure};
 ghost use Rattle.screen_io.specs.Sink.{Gains};
 
 use crate::source::Failed;
@@ -20,12 +20,12 @@ pub trait Sink {
         ensures some { IfOk result (λ count. 0 < length bytes.now → 0 < count) }
         ensures gains { IfOk result (λ count. Gains (held self.old) (take count bytes.now) (held self.new)) }
         ensures kept { OnErr result (held self.new ≡ held self.old) }
-        ensures cause { HasCause (faults self.old) (faults self.new) result }
+        ensures cause { CountsFailure (faults self.old) (faults self.new) result }
         ensures unfailed { OnOk result (faults self.new ≡ faults self.old) };
 
     /// Hands on what is buffered. What is held stays as it is.
     fn finish(&mut self) -> Result<(), Failed>
         ensures kept { held self.new ≡ held self.old }
-        ensures cause { HasCause (faults self.old) (faults self.new) result }
+        ensures cause { CountsFailure (faults self.old) (faults self.new) result }
         ensures unfailed { OnOk result (faults self.new ≡ faults self.old) };
 }

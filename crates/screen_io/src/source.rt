@@ -1,7 +1,7 @@
 //! What a source of bytes promises.
 ghost use Rattle.std.specs.Prelude.{◌≡◌, ◌≤◌, List, ℕ, length, Option, IfOk, OnOk, OnErr};
-ghost use Rattle.screen_io.specs.Faults.{HasCause};
-ghost use Rattle.screen_io.specs.Source.{Reads};
+ghost use Rattle.screen_io.specs.Faults.{CountsFailure};
+ghost use Rattle.screen_io.specs.Source.{TakesInto};
 
 use thiserror::Error;
 
@@ -22,8 +22,8 @@ pub trait Source {
     /// unless the source is at its end. A failure leaves the bytes that are left as they were.
     fn read(&mut self, buf: &mut [u8]) -> Result<usize, Failed>
         ensures bound { IfOk result (λ count. count ≤ length buf.new) }
-        ensures bytes { IfOk result (λ count. Reads (left self.old) (left self.new) buf.new count) }
+        ensures bytes { IfOk result (λ count. TakesInto (left self.old) (left self.new) buf.new count) }
         ensures kept { OnErr result (left self.new ≡ left self.old) }
-        ensures cause { HasCause (faults self.old) (faults self.new) result }
+        ensures cause { CountsFailure (faults self.old) (faults self.new) result }
         ensures unfailed { OnOk result (faults self.new ≡ faults self.old) };
 }

@@ -1,6 +1,6 @@
 //! Writing bytes whole to a sink.
 ghost use Rattle.std.specs.Prelude.{◌≡◌, OnOk, OnErr};
-ghost use Rattle.screen_io.specs.Faults.{HasCause};
+ghost use Rattle.screen_io.specs.Faults.{CountsFailure};
 ghost use Rattle.screen_io.specs.Sink.{Gains, GainsPrefix};
 
 use crate::sink::Sink;
@@ -12,7 +12,7 @@ use crate::source::Failed;
 pub fn write_all_of<K: Sink>(sink: &mut K, bytes: &[u8]) -> Result<(), Failed>
     ensures whole { OnOk result (Gains (K.held sink.old) bytes.now (K.held sink.new)) }
     ensures part { OnErr result (GainsPrefix (K.held sink.old) bytes.now (K.held sink.new)) }
-    ensures cause { HasCause (K.faults sink.old) (K.faults sink.new) result }
+    ensures cause { CountsFailure (K.faults sink.old) (K.faults sink.new) result }
     ensures unfailed { OnOk result (K.faults sink.new ≡ K.faults sink.old) }
 {
     let mut done = 0;

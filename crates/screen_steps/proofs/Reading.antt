@@ -2,7 +2,7 @@
 use Rattle.std.proofs.Common.{◌≡◌, ◌≢◌, inl, inr, ℕ, ◌+◌, ◌≤◌, arith, List, [], length, Option, None, Result, Ok, Err, OnOk, OnErr, refl, sym, subst}
 use Rattle.rule_file.specs.File.{ReadsFile}
 use Rattle.rule_file.specs.declared.fault.RuleFault.{RuleFault}
-use Rattle.screen_io.specs.Faults.{Rose, HasCause}
+use Rattle.screen_io.specs.Faults.{Rose, CountsFailure}
 use Rattle.screen_io.specs.Sink.{Gains, GainsPrefix}
 use Rattle.screen_io.specs.declared.source.Failed.{Failed}
 use Rattle.rule_file.specs.declared.read.TheConstants.{LONGEST as longest_rules}
@@ -151,7 +151,7 @@ module _ {S K : Type 0} (left : S → Option (List ℕ)) (source_faults : S → 
 module _ {K : Type 0} (held : K → Option (List ℕ)) (sink_faults : K → ℕ) where
   pub noted : (note seen : List ℕ) (sink now : K) (result : Result (Unit {0}) Failed) → seen ≡ note
       → OnOk result (Gains (held sink) seen (held now)) → OnErr result (GainsPrefix (held sink) seen (held now))
-      → HasCause (sink_faults sink) (sink_faults now) result → OnOk result (sink_faults now ≡ sink_faults sink) → IsNoted held sink_faults note sink now
+      → CountsFailure (sink_faults sink) (sink_faults now) result → OnOk result (sink_faults now ≡ sink_faults sink) → IsNoted held sink_faults note sink now
   noted note seen sink now (Ok x) same whole part cause unfailed = inl (subst (λ (t : List ℕ). Gains (held sink) t (held now)) same whole, unfailed)
   noted note seen sink now (Err e) same whole part cause unfailed = inr (subst (λ (t : List ℕ). GainsPrefix (held sink) t (held now)) same part, cause.failed)
 

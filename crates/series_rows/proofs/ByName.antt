@@ -7,7 +7,7 @@ use Rattle.std.proofs.lemmas.Bool.Decides.{nat_tests, eqb_tells}
 use Rattle.words.proofs.Lists.{all_weaker}
 use Rattle.rule_file.specs.Numbers.{NamedSensor}
 use Rattle.series_rows.specs.Header.{bears, columns_named_from, columns_named, columns_of, named_by_sensors, other_than, sensor_column, the_only_column, time_column, with_first}
-use Rattle.series_rows.specs.Search.{candidates, is_candidate, is_left_out, led_by, left_out, of_sensors_after}
+use Rattle.series_rows.specs.Search.{candidates, is_candidate, is_left_out, left_out}
 use Rattle.series_rows.specs.declared.fault.TableFault.{TableFault}
 
 -- ---- the next column with a name
@@ -66,6 +66,11 @@ none_after_last except name fields i h =
 
 -- ---- the column of each sensor
 
+-- these columns before the others, where there is no fault
+abbrev pub led_by : List ℕ → Result (List ℕ) TableFault → Result (List ℕ) TableFault
+led_by cols (Ok others) = Ok (cols ++ others)
+led_by cols (Err fault) = Err fault
+
 led_step : (cols : List ℕ) (col : ℕ) (others : Result (List ℕ) TableFault) → led_by cols (with_first (Ok col) others) ≡ led_by (cols ++ col ∷ []) others
 led_step cols col (Ok others) = ap Ok (sym (append_assoc cols (col ∷ []) others))
 led_step cols col (Err fault) = refl
@@ -112,6 +117,10 @@ pub sensor_at : {A B : Type 0} (f : A → B) (o : Option A) (x : A) (xs : List B
 sensor_at f o x xs i e is = sym e ∙ ap (option_map f) is
 
 -- ---- the columns of sensors from the left
+
+-- the columns of sensors after so many
+abbrev pub of_sensors_after : List ℕ → ℕ → ℕ → List ℕ
+of_sensors_after sensor_cols width after = filter (λ col. list_any (λ sensor. sensor == col) sensor_cols) (range_with_len (after + 1) (width - after))
 
 pub sensors_next : (sensor_cols : List ℕ) (width i : ℕ) → i < width
     → of_sensors_after sensor_cols width i

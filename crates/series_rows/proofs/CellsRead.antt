@@ -7,12 +7,16 @@ use Rattle.rule_file.specs.declared.rules.Format.{Format}
 use Rattle.series_rows.specs.Cells.{ReadsCell}
 use Rattle.series_rows.specs.Faults.{fault_at}
 use Rattle.series_rows.specs.Header.{field_at}
-use Rattle.series_rows.specs.Parts.{no_cells, with_last, joined, IsFirstRefused}
+use Rattle.series_rows.specs.Parts.{no_cells, with_last, IsFirstRefused}
 use Rattle.series_rows.specs.ReadsRow.{AreCells, RefusesFirst, before_cells}
 use Rattle.series_rows.specs.Row.{CellsView, columns, Rise}
 use Rattle.series_rows.specs.declared.fault.TableCause.TheVariants.{Value}
 use Rattle.series_rows.specs.declared.fault.TableFault.{TableFault}
 use Rattle.series_rows.proofs.Rising.{rise_lower}
+
+-- the cells of columns, and those of the columns to the right of them
+abbrev pub joined : CellsView → CellsView → CellsView
+joined cells others = record { readings = cells.readings ++ others.readings; missing = cells.missing ++ others.missing }
 
 -- the answer for the columns that are left is the answer for all
 pub record AreCellsSoFar (format : Format) (fields : List (List ℕ)) (cols : List ℕ) (count : ℕ) (done : CellsView) : Type 0 where

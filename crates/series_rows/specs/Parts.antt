@@ -20,9 +20,6 @@ abbrev pub with_last : CellsView → ℕ → Option ℤ → CellsView
 with_last cells col (Some value) = record { readings = cells.readings ++ record { col = col; value = value } ∷ []; missing = cells.missing }
 with_last cells col None = record { readings = cells.readings; missing = cells.missing ++ col ∷ [] }
 
-abbrev pub joined : CellsView → CellsView → CellsView
-joined cells others = record { readings = cells.readings ++ others.readings; missing = cells.missing ++ others.missing }
-
 -- a column is one of so many
 abbrev pub IsWithin : ℕ → ℕ → Type 0
 IsWithin width col = (1 ≤ col) × (col ≤ width)

@@ -1,8 +1,6 @@
 -- For proofs: the columns with a name, one after the other.
-use Rattle.std.specs.Prelude.{ℕ, suc, ◌+◌, ◌-◌, ◌==◌, ◌&&◌, Bool, false, not, List, ◌++◌, drop, Option, Some, None, Result, Ok, Err}
-use Rattle.std.specs.List.{filter, list_any, range_with_len}
+use Rattle.std.specs.Prelude.{ℕ, suc, ◌==◌, ◌&&◌, Bool, false, not, List, drop, Option, Some, None}
 use Rattle.series_rows.specs.Header.{bears, columns_named_from, field_at, other_than}
-use Rattle.series_rows.specs.declared.fault.TableFault.{TableFault}
 
 abbrev pub left_out : Option ℕ → List ℕ → List ℕ
 left_out None cols = cols
@@ -20,12 +18,3 @@ is_candidate except name fields col = not (is_left_out except col) && bears name
 -- the columns with the name after so many, but for the one left out
 abbrev pub candidates : Option ℕ → List ℕ → List (List ℕ) → ℕ → List ℕ
 candidates except name fields after = left_out except (columns_named_from (suc after) name (drop after fields))
-
--- these columns before the others, where there is no fault
-abbrev pub led_by : List ℕ → Result (List ℕ) TableFault → Result (List ℕ) TableFault
-led_by cols (Ok others) = Ok (cols ++ others)
-led_by cols (Err fault) = Err fault
-
--- the columns of sensors after so many
-abbrev pub of_sensors_after : List ℕ → ℕ → ℕ → List ℕ
-of_sensors_after sensor_cols width after = filter (λ col. list_any (λ sensor. sensor == col) sensor_cols) (range_with_len (after + 1) (width - after))

@@ -1,3 +1,5 @@
+//! The repair of a sensor: of one reading alone, under rules at the ends of their limits, and of a reading after the last result.
+
 ghost use Rattle.std.specs.Prelude.{◌≡◌, ◌≤◌, [], IfOk, IfSome, IsTrue, None};
 ghost use Rattle.fix_point.specs.Rates.{IsInReach, IsRate};
 ghost use Rattle.rule_file.specs.Limits.{IsSpan};

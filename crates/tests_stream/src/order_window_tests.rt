@@ -1,3 +1,5 @@
+//! Ordered windows: their medians are those of all candidates, also where rules, times and values are at the ends of their limits.
+
 ghost use Rattle.std.specs.Prelude.{◌≤◌, All, IsTrue};
 ghost use Rattle.fix_point.specs.Rates.{IsInReach, IsRate};
 ghost use Rattle.rule_file.specs.Limits.{IsSpan};

@@ -1,4 +1,5 @@
-//! Medians and local costs of a reading and its successors, beside numbers that were found by hand.
+//! Medians and local costs of values, against those worked out by hand.
+
 ghost use Rattle.std.specs.Prelude.{◌↔◌, IsTrue, All};
 ghost use Rattle.window_median.specs.LocalCost.{HasSteps};
 

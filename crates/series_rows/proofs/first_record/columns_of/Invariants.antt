@@ -1,7 +1,7 @@
 use Rattle.std.proofs.Common.{◌≡◌, drop}
 use Rattle.rule_file.specs.Numbers.{sensors}
 use Rattle.series_rows.specs.Header.{columns_of}
-use Rattle.series_rows.specs.Search.{led_by}
+use Rattle.series_rows.proofs.ByName.{led_by}
 use Rattle.series_rows.proofs.first_record.columns_of.Given as goal
 
 abbrev pub invariant-loop-i : goal.invariant-loop-i

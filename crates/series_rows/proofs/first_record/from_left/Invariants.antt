@@ -1,6 +1,6 @@
 use Rattle.std.proofs.Common.{◌≡◌, ◌++◌}
 use Rattle.series_rows.specs.Header.{named_by_sensors}
-use Rattle.series_rows.specs.Search.{of_sensors_after}
+use Rattle.series_rows.proofs.ByName.{of_sensors_after}
 use Rattle.series_rows.proofs.first_record.from_left.Given as goal
 
 abbrev pub invariant-loop-i : goal.invariant-loop-i

@@ -1,10 +1,10 @@
-use Rattle.screen_io.proofs.Steps.{Reads-front}
+use Rattle.screen_io.proofs.Steps.{TakesInto-front}
 use Rattle.screen_io.proofs.honest_source.HonestSource.give.Goals as goal
 
 pub returns-clause-bytes : goal.returns-clause-bytes
 returns-clause-bytes c =
     rw (← c.self.view_is) (
-    Reads-front
+    TakesInto-front
     c.self.inside.bytes.items
     _
     _
