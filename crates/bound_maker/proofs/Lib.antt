@@ -23,6 +23,7 @@ pub mod SensorPlaces
 pub mod Sliding
 pub mod Soundness
 pub mod Standing
+pub mod Stays
 pub mod Steps
 pub mod Weighing
 pub mod Weights

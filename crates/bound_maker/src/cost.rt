@@ -9,7 +9,7 @@ ghost use Rattle.bound_maker.specs.Broken.{first_broken, is_broken};
 ghost use Rattle.bound_maker.specs.Costs.{problem_with};
 ghost use Rattle.bound_maker.specs.declared.maker.TheConstants.{MOST_BOUNDS};
 
-use crate::weight::change_by_rows;
+use crate::change::change_by_rows;
 use rule_file::Rules;
 use screen_model::{Bound, BoundList, BoundName, End, Place, Series};
 use series_csv::Table;
@@ -155,7 +155,7 @@ fn product(price: u32, units: u128) -> u128
 }
 
 /// What a series pays for bounds.
-fn paid_for(table: &Table, rules: &Rules, bounds: &[Bound], series: &Series) -> u128
+fn payments(table: &Table, rules: &Rules, bounds: &[Bound], series: &Series) -> u128
     requires { length bounds.now ≤ MOST_BOUNDS }
     ensures value { result ≡ sum (map (payment (places table.now) series.now) (priced rules.now bounds.now)) }
     ensures small { result ≤ 2 ^ 120 }
@@ -167,13 +167,23 @@ fn paid_for(table: &Table, rules: &Rules, bounds: &[Bound], series: &Series) -> 
     paid
 }
 
+/// What a series pays for those of these bounds that it breaks, as `paid_of` tells it of a list. It takes no memory.
+pub fn paid_for(table: &Table, rules: &Rules, bounds: &[Bound], series: &Series) -> i128
+    requires { length bounds.now ≤ MOST_BOUNDS }
+    ensures value { result ≡ pos (paid (problem_with rules.now table.now bounds.now) series.now) }
+    ensures small { unsigned_abs result ≤ 2 ^ 120 }
+{
+    payments(table, rules, bounds, series) as i128
+}
+
 /// What a series pays for the bounds of the list that it breaks: the price of each for each unit. A value that is missing, as
 /// of a place where no reading is, counts as 0. It takes no memory.
 pub fn paid_of(table: &Table, rules: &Rules, bounds: &BoundList, series: &Series) -> i128
     requires { length bounds.now ≤ MOST_BOUNDS }
-    ensures { result ≡ pos (paid (problem_with rules.now table.now bounds.now) series.now) }
+    ensures value { result ≡ pos (paid (problem_with rules.now table.now bounds.now) series.now) }
+    ensures small { unsigned_abs result ≤ 2 ^ 120 }
 {
-    paid_for(table, rules, bounds.as_slice(), series) as i128
+    paid_for(table, rules, bounds.as_slice(), series)
 }
 
 /// What a series costs: its change, and what it pays for the bounds of the list that it breaks. It takes no memory.
@@ -183,6 +193,6 @@ pub fn cost_of(table: &Table, rules: &Rules, bounds: &BoundList, series: &Series
     ensures { result ≡ pos (cost (problem_with rules.now table.now bounds.now) series.now) }
 {
     let change = change_by_rows(table, rules, series);
-    let paid = paid_for(table, rules, bounds.as_slice(), series);
+    let paid = payments(table, rules, bounds.as_slice(), series);
     (change + paid) as i128
 }

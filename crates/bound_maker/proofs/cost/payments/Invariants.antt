@@ -1,7 +1,7 @@
 use Rattle.std.proofs.Common.{◌≡◌, ◌+◌, ◌*◌, ◌^◌, ◌≤◌, drop}
 use Rattle.series_csv.specs.Readings.{places}
 use Rattle.bound_maker.proofs.Payments.{paid_for}
-use Rattle.bound_maker.proofs.cost.paid_for.Given as goal
+use Rattle.bound_maker.proofs.cost.payments.Given as goal
 
 abbrev pub invariant-loop-bound : goal.invariant-loop-bound
 invariant-loop-bound l = record {
