@@ -114,12 +114,12 @@ impl Ran {
         rules: &[u8],
         readings: &[u8],
     ) -> Result<(), AllocError> {
-        assert_eq!(rt; left(alloc, &mut self.ins.rules)?.as_slice(), rules);
-        assert_eq!(rt; left(alloc, &mut self.ins.readings)?.as_slice(), readings);
-        assert_eq!(rt;
-            left(alloc, &mut self.ins.cert)?.as_slice(),
-            b"?".as_slice()
-        );
+        let rules_left = left(alloc, &mut self.ins.rules)?;
+        let readings_left = left(alloc, &mut self.ins.readings)?;
+        let cert_left = left(alloc, &mut self.ins.cert)?;
+        assert_eq!(rt; rules_left.as_slice(), rules);
+        assert_eq!(rt; readings_left.as_slice(), readings);
+        assert_eq!(rt; cert_left.as_slice(), b"?".as_slice());
         Ok(())
     }
 }
@@ -138,11 +138,12 @@ fn left(alloc: Global, source: &mut MemSource) -> Result<Vec<u8>, AllocError> {
 
 /// What is left of a text where this call fails, and each before it gave sixteen bytes.
 fn rest(text: &str, call: u64) -> &[u8] {
+    let bytes = text.as_bytes();
     let taken = call
         .saturating_sub(1)
         .saturating_mul(16)
-        .min(text.len() as u64);
-    &text.as_bytes()[taken as usize..]
+        .min(bytes.len() as u64);
+    &bytes[taken as usize..]
 }
 
 /// How many calls write a certificate or an output. Where there is none its sink is not called.
