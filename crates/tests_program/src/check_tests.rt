@@ -1,7 +1,7 @@
 //! Whole runs of the commands that check a certificate, over sources and sinks in memory.
 use crate::run_tests::{
-    BASE, BETWEEN, PRICED, RANGE_TRUST, SWING, changed, front, global, is_made, run_words, sink,
-    source, still, words,
+    BASE, BETWEEN, PRICED, RANGE_TRUST, SWING, changed, front, global, is_made, read_calls,
+    run_words, sink, source, still, words,
 };
 use screen_io::{MemSink, MemSource, Source};
 use screen_tool::{EndUse, Inputs, Outputs, Status, roles};
@@ -197,9 +197,9 @@ fn a_certificate_is_read_last(rt: HostRuntime) -> Result<(), Fail> {
     Ok(())
 }
 
-/// Whether a source of this text has a call of this number, where sixteen bytes come in each, and none in the last one.
+/// Whether a source of this text has a call of this number.
 fn is_read(text: &str, call: u64) -> bool {
-    call >= 1 && call <= (text.len() as u64).div_ceil(16).saturating_add(1)
+    call >= 1 && call <= read_calls(text)
 }
 
 #[test]

@@ -4,6 +4,8 @@
 #[cfg(test)]
 mod check_tests;
 #[cfg(test)]
+mod fault_tests;
+#[cfg(test)]
 mod online_tests;
 #[cfg(test)]
 mod run_tests;

@@ -1,5 +1,5 @@
 //! Whole runs of the command `online`, over sources and sinks in memory.
-use crate::run_tests::{front, run_words, sink, source, words};
+use crate::run_tests::{front, run_words, sink, source, source_of_pieces, words};
 use screen_io::{MemSink, MemSource, Source};
 use screen_tool::{EndUse, Inputs, Outputs, Status, roles};
 use std::alloc::{AllocError, Global};
@@ -147,11 +147,25 @@ fn rules_that_are_not_for_streams_write_nothing(rt: HostRuntime) -> Result<(), F
 #[test]
 fn a_read_that_fails_keeps_what_was_ready(rt: HostRuntime) -> Result<(), Fail> {
     let alloc = rt.alloc();
-    for (call, written) in [(1, ""), (2, "time,x\n"), (3, "time,x\n0,12\n")] {
+    // The bytes of a piece, the call that fails, and what is written of the pieces before it.
+    for (piece, call, written) in [
+        (16, 1, ""),
+        (16, 2, "time,x\n"),
+        (16, 3, "time,x\n0,12\n"),
+        (9, 1, ""),
+        (9, 2, "time,x\n"),
+        (9, 3, "time,x\n"),
+        (9, 4, "time,x\n0,12\n"),
+        (6, 2, ""),
+        (7, 2, "time,x\n"),
+        (1, 26, "time,x\n"),
+        (1, 27, "time,x\n"),
+        (1, 28, "time,x\n0,12\n"),
+    ] {
         let ran = online(
             alloc,
             source(alloc, RULES.as_bytes(), &[])?,
-            source(alloc, READINGS.as_bytes(), &[call])?,
+            source_of_pieces(alloc, READINGS.as_bytes(), &[call], piece)?,
             sink(alloc, &[])?,
         )?;
         ran.assert_is(&rt, Status::ReadFault, written, NOT_READ);

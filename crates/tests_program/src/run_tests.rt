@@ -27,7 +27,7 @@ pub(super) const PRICED: &str =
     "[format]\ndecimals = 0\n[[speed]]\nsensor = \"x\"\nmin = -1\nmax = 1\nwindow = 10\nprice = 1\n[[weight]]\nsensor = \"x\"\nweight = 5\n";
 
 /// A speed rule, and readings that are right.
-const TRUST: &str =
+pub(super) const TRUST: &str =
     "[format]\ndecimals = 0\n[[speed]]\nsensor = \"x\"\nmin = -1\nmax = 1\nwindow = 10\n[[trust]]\nsensor = \"x\"\n";
 
 /// The same, and the first reading counts five times.
@@ -67,7 +67,7 @@ const CERT: &[u8] = b"screen-cert 1\nclaim repair\ntotal 0\nend\n";
 const PRICED_CERT: &[u8] = b"screen-cert 2\nclaim repair\ntotal 0\npaid 0\nend\n";
 
 /// The words of `global`.
-const GLOBAL: [&str; 4] = ["global", "r", "d", "c"];
+pub(super) const GLOBAL: [&str; 4] = ["global", "r", "d", "c"];
 
 /// A run of `global`: how it ended, and what it wrote.
 #[derive(Drop)]
@@ -110,38 +110,38 @@ pub(super) fn run_words(
 }
 
 pub(super) fn source(alloc: Global, bytes: &[u8], fails: &[u64]) -> Result<MemSource, AllocError> {
-    Ok(MemSource::new(bytes.to_vec(alloc)?, fails.to_vec(alloc)?, 16))
+    source_of_pieces(alloc, bytes, fails, 16)
+}
+
+/// A source that gives so many bytes in a call, at least one.
+pub(super) fn source_of_pieces(
+    alloc: Global,
+    bytes: &[u8],
+    fails: &[u64],
+    piece: usize,
+) -> Result<MemSource, AllocError> {
+    let fails = fails.to_vec(alloc)?;
+    Ok(MemSource::new(bytes.to_vec(alloc)?, fails, piece.max(1)))
 }
 
 pub(super) fn sink(alloc: Global, fails: &[u64]) -> Result<MemSink, AllocError> {
-    MemSink::new(alloc, 40_000, fails.to_vec(alloc)?, 8)
+    MemSink::new(alloc, 100_000, fails.to_vec(alloc)?, 8)
 }
 
 fn run_with(
     alloc: Global,
     texts: &[&str],
-    rules: MemSource,
-    readings: MemSource,
-    out: MemSink,
+    rules: &str,
+    readings: &[u8],
 ) -> Result<Ran, AllocError> {
-    let outs = Outputs {
-        out,
+    let mut outs = Outputs {
+        out: sink(alloc, &[])?,
         cert: sink(alloc, &[])?,
         note: sink(alloc, &[])?,
     };
-    run_over(alloc, texts, rules, readings, outs)
-}
-
-fn run_over(
-    alloc: Global,
-    texts: &[&str],
-    rules: MemSource,
-    readings: MemSource,
-    mut outs: Outputs<MemSink>,
-) -> Result<Ran, AllocError> {
     let mut ins = Inputs {
-        rules,
-        readings,
+        rules: source(alloc, rules.as_bytes(), &[])?,
+        readings: source(alloc, readings, &[])?,
         cert: source(alloc, b"?", &[])?,
     };
     let status = run_words(alloc, texts, &mut ins, &mut outs)?;
@@ -156,9 +156,7 @@ fn run_over(
 }
 
 pub(super) fn global(alloc: Global, rules: &str, readings: &[u8]) -> Result<Ran, AllocError> {
-    let rules = source(alloc, rules.as_bytes(), &[])?;
-    let readings = source(alloc, readings, &[])?;
-    run_with(alloc, &GLOBAL, rules, readings, sink(alloc, &[])?)
+    run_with(alloc, &GLOBAL, rules, readings)
 }
 
 /// Rules, readings that keep all their bounds, and what is written of these.
@@ -368,6 +366,46 @@ fn readings_are_repaired(rt: HostRuntime) -> Result<(), Fail> {
     Ok(())
 }
 
+/// Readings in hundredths with dates as times, which may change by five of them in a second.
+const HOUR: &str =
+    "[format]\ndecimals = 2\nform = \"instant\"\n[[speed]]\nsensor = \"x\"\nmin = \"-0.05\"\nmax = \"0.05\"\nper = 1\nwindow = 60\n";
+
+/// An hour of readings, one a second, with this value in the place of 20.00 once in every fifth minute.
+fn hour(alloc: Global, spike: &str) -> Result<String, Fail> {
+    let mut text = String::from_str(alloc, "time,x\n")?;
+    for minute in 0..60u32 {
+        for second in 0..60u32 {
+            let value = if minute % 5 == 2 && second == 29 {
+                spike
+            } else {
+                "20.00"
+            };
+            let row = format!(in alloc; "2024-05-01T00:{minute:02}:{second:02}Z,{value}\n")?;
+            text.push_str(row.as_str())?;
+        }
+    }
+    Ok(text)
+}
+
+#[test]
+fn spikes_in_an_hour_are_repaired(rt: HostRuntime) -> Result<(), Fail> {
+    let alloc = rt.alloc();
+    let mut sets = String::new(alloc);
+    let mut flows = String::new(alloc);
+    for spike in 0..12u32 {
+        let row = spike * 300 + 150;
+        sets.push_str(format!(in alloc; "set {row} 2 2005\n")?.as_str())?;
+        let before = row - 1;
+        flows.push_str(format!(in alloc; "flow 1 {before} {row} 2 up 1\n")?.as_str())?;
+    }
+    let cert = format!(in alloc; "screen-cert 1\nclaim repair\ntotal 17940\n{sets}{flows}end\n")?;
+    let readings = hour(alloc, "35.00")?;
+    let written = hour(alloc, "20.05")?;
+    let ran = global(alloc, HOUR, readings.as_bytes())?;
+    ran.assert_is(&rt, Status::Done, written.as_bytes(), cert.as_bytes(), b"");
+    Ok(())
+}
+
 /// Rules, readings that have no repair under them, and the steps of the cycle that shows it.
 const BLOCKED: [(&str, &str, &str); 3] = [
     (
@@ -477,20 +515,23 @@ fn too_many_columns_and_too_long_a_record_are_named(rt: HostRuntime) -> Result<(
 #[test]
 fn too_many_bounds_are_named(rt: HostRuntime) -> Result<(), Fail> {
     let alloc = rt.alloc();
-    // Each two of the readings stand within the window: they have 4,002,000 bounds, and each has two more.
-    let rules = changed(alloc, SWING, "window = 10", "window = 2000")?;
-    let readings = still(alloc, 2_001)?;
-    let fault = "TooManyBounds, row 0, column 0";
-    assert_readings_refused(&rt, alloc, rules.as_str(), readings.as_str(), fault)?;
+    // Each two of the readings stand within the window: the fewer have 4,002,000 bounds, and each has two more.
+    let swing = changed(alloc, SWING, "window = 10", "window = 5000")?;
     // A speed rule speaks of neighbours alone.
-    let rules = changed(alloc, BASE, "window = 10", "window = 2000")?;
-    assert_kept(
-        &rt,
-        alloc,
-        rules.as_str(),
-        readings.as_str(),
-        readings.as_str(),
-    )
+    let speed = changed(alloc, BASE, "window = 10", "window = 5000")?;
+    let fault = "TooManyBounds, row 0, column 0";
+    for rows in [2_001, 5_000] {
+        let readings = still(alloc, rows)?;
+        assert_readings_refused(&rt, alloc, swing.as_str(), readings.as_str(), fault)?;
+        assert_kept(
+            &rt,
+            alloc,
+            speed.as_str(),
+            readings.as_str(),
+            readings.as_str(),
+        )?;
+    }
+    Ok(())
 }
 
 /// A text, and then another one so many times.
@@ -576,10 +617,7 @@ fn too_many_rules_and_too_long_a_file_are_named(rt: HostRuntime) -> Result<(), F
 }
 
 fn gives_the_usage(rt: &impl Abort, alloc: Global, texts: &[&str]) -> Result<(), AllocError> {
-    let rules = source(alloc, BASE.as_bytes(), &[])?;
-    let readings = source(alloc, READINGS, &[])?;
-    let out = sink(alloc, &[])?;
-    let ran = run_with(alloc, texts, rules, readings, out)?;
+    let ran = run_with(alloc, texts, BASE, READINGS)?;
     let usage =
         b"usage: screen global RULES READINGS CERT\n       screen check RULES READINGS CERT\n       screen online RULES\n       screen report RULES READINGS CERT\n       screen sample ROWS SEED\n";
     ran.assert_is(rt, Status::Usage, b"", b"", usage);
@@ -596,36 +634,6 @@ fn words_that_are_no_command_give_the_usage(rt: HostRuntime) -> Result<(), Fail>
     Ok(())
 }
 
-#[test]
-fn a_read_that_fails_writes_nothing(rt: HostRuntime) -> Result<(), Fail> {
-    let alloc = rt.alloc();
-    let note = b"screen: a read failed\n";
-    // Sixteen bytes come in each call, and none in the last one.
-    for (rules, readings) in [
-        (1, 0),
-        (2, 0),
-        (3, 0),
-        (4, 0),
-        (5, 0),
-        (6, 0),
-        (7, 0),
-        (0, 1),
-        (0, 2),
-        (0, 3),
-    ] {
-        let rules = source(alloc, BASE.as_bytes(), &[rules])?;
-        let readings = source(alloc, READINGS, &[readings])?;
-        run_with(alloc, &GLOBAL, rules, readings, sink(alloc, &[])?)?.assert_is(
-            &rt,
-            Status::ReadFault,
-            b"",
-            b"",
-            note,
-        );
-    }
-    Ok(())
-}
-
 /// The front of a text that a sink holds which takes eight bytes a call and fails at this one.
 pub(super) fn front(text: &[u8], call: u64) -> &[u8] {
     let held = call
@@ -635,74 +643,19 @@ pub(super) fn front(text: &[u8], call: u64) -> &[u8] {
     &text[..held as usize]
 }
 
-/// Whether the call is made: a write for each eight bytes, and one that finishes.
+/// How many calls write a text: one for each eight bytes, and one that finishes.
+pub(super) fn write_calls(text: &[u8]) -> u64 {
+    (text.len() as u64).div_ceil(8) + 1
+}
+
+/// Whether the call is made that has this number among those which write the text.
 pub(super) fn is_made(text: &[u8], call: u64) -> bool {
-    call <= (text.len() as u64).div_ceil(8) + 1
+    call <= write_calls(text)
 }
 
-#[test]
-fn a_sink_that_fails_holds_a_front_of_its_text(rt: HostRuntime) -> Result<(), Fail> {
-    let alloc = rt.alloc();
-    let failed = b"screen: a write failed\n";
-    for call in 1..8u64 {
-        let outs = Outputs {
-            out: sink(alloc, &[])?,
-            cert: sink(alloc, &[call])?,
-            note: sink(alloc, &[])?,
-        };
-        let ran = run_over(
-            alloc,
-            &GLOBAL,
-            source(alloc, BASE.as_bytes(), &[])?,
-            source(alloc, READINGS, &[])?,
-            outs,
-        )?;
-        if is_made(CERT, call) {
-            ran.assert_is(&rt, Status::WriteFault, b"", front(CERT, call), failed);
-        } else {
-            ran.assert_is(&rt, Status::Done, READINGS, CERT, b"");
-        }
-        let outs = Outputs {
-            out: sink(alloc, &[call])?,
-            cert: sink(alloc, &[])?,
-            note: sink(alloc, &[])?,
-        };
-        let ran = run_over(
-            alloc,
-            &GLOBAL,
-            source(alloc, BASE.as_bytes(), &[])?,
-            source(alloc, READINGS, &[])?,
-            outs,
-        )?;
-        if is_made(READINGS, call) {
-            ran.assert_is(&rt, Status::WriteFault, front(READINGS, call), CERT, failed);
-        } else {
-            ran.assert_is(&rt, Status::Done, READINGS, CERT, b"");
-        }
-    }
-    Ok(())
-}
-
-#[test]
-fn a_note_that_fails_changes_no_status(rt: HostRuntime) -> Result<(), Fail> {
-    let alloc = rt.alloc();
-    let note = b"screen: readings refused: NoHeader, row 0, column 0\n";
-    for call in 1..9u64 {
-        let outs = Outputs {
-            out: sink(alloc, &[])?,
-            cert: sink(alloc, &[])?,
-            note: sink(alloc, &[call])?,
-        };
-        let ran = run_over(
-            alloc,
-            &GLOBAL,
-            source(alloc, BASE.as_bytes(), &[])?,
-            source(alloc, b"", &[])?,
-            outs,
-        )?;
-        ran.assert_is(&rt, Status::ReadingsRefused, b"", b"", front(note, call));
-    }
-    Ok(())
+/// How many calls read a text: one for each sixteen bytes, and one that gets none.
+pub(super) fn read_calls(text: &str) -> u64 {
+    (text.len() as u64).div_ceil(16).saturating_add(1)
 }
 
 #[test]
