@@ -7,9 +7,10 @@ ghost use Rattle.least_cost.specs.Answer.{Answers, CountsChanges};
 ghost use Rattle.global_repair.specs.declared.fault.RepairFault.TheVariants.{Memory};
 
 use crate::fault::RepairFault;
-use crate::lists::{prices, weights};
+use crate::lists::prices;
 use bound_maker::{
     best_over_made, made_bind_all, made_is_a_part, make, names_are_distinct, problem_is_sound,
+    weights_of,
 };
 use flow_core::Solver;
 use least_cost::{Outcome, Problem, least_cost};
@@ -45,9 +46,11 @@ pub fn repair<V: Solver>(
     made_bind_all(table, rules);
     best_over_made(table, rules);
     problem_is_sound(table, rules);
+    // There are not too many readings.
+    let _count = table.len();
     let places = table.places();
     let bounds = make(alloc, table, rules)?;
-    let weights = weights(alloc, table, rules)?;
+    let weights = weights_of(alloc, table, rules)?;
     let prices = prices(alloc, rules, &bounds)?;
     let problem = Problem {
         places,

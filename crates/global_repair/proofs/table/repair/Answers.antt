@@ -1,4 +1,4 @@
-use Rattle.std.proofs.Common.{◌≡◌, ◌≤◌, ◌∙◌, List, length, ap, subst}
+use Rattle.std.proofs.Common.{◌≡◌, ◌≤◌, ◌∙◌, List, length, ap, subst, arith}
 use Rattle.screen_model.specs.Cost.{Problem}
 use Rattle.screen_model.specs.declared.bound.Bound.{Bound}
 use Rattle.bound_maker.specs.declared.maker.TheConstants.{MOST_BOUNDS}
@@ -11,14 +11,11 @@ use Rattle.global_repair.proofs.Whole.{over_all}
 use Rattle.global_repair.proofs.table.repair.Given.{Over}
 use Rattle.global_repair.proofs.table.repair.Goals as goal
 
-pub weights-requires : goal.weights-requires
-weights-requires g c = c.problem_is_sound.ensures.weighted ∙ c.places-places.ensures.len
-
 lists_here : (g : Over) (c : goal.After-least_cost-arg-1 g) → AreLists c.args.rules.now c.args.table.now c.places-places.result.now c.series.result.now c.as_slice.result.now c.in_ok-bounds.bounds c.as_slice-2.result.now
 lists_here g c = record {
   places_are = c.places-places.ensures.places;
   values_are = c.series.ensures.values;
-  weights_are = c.as_slice.ensures.value ∙ c.in_ok-weights.ensures.weights;
+  weights_are = c.as_slice.ensures.value ∙ c.in_ok-weights.ensures;
   bounds_are = c.in_ok-bounds.ensures.made;
   prices_are = c.as_slice-2.ensures.value ∙ c.in_ok-prices.ensures ∙ ap (prices_of c.args.rules.now) c.in_ok-bounds.ensures.made;
 }
@@ -28,14 +25,14 @@ least_cost-requires g c =
     let rules = c.args.rules.now in
     let table = c.args.table.now in
     lists_solvable rules table c.places-places.result.now c.series.result.now c.as_slice.result.now c.in_ok-bounds.bounds c.as_slice-2.result.now (lists_here g c)
-    (solvable rules table c.problem_is_sound.ensures c.names_are_distinct.ensures (c.made_is_a_part.ensures rules table) c.places-places.ensures.distinct c.places-places.ensures.len c.in_ok-weights.ensures.few c.series.ensures.small
+    (solvable rules table c.problem_is_sound.ensures c.names_are_distinct.ensures (c.made_is_a_part.ensures rules table) c.places-places.ensures.distinct c.places-places.ensures.len (omega (arith, c.len-count.ensures.len, c.len-count.ensures.most)) c.series.ensures.small
     (subst (λ (bs : List Bound). length bs ≤ MOST_BOUNDS) c.in_ok-bounds.ensures.made c.in_ok-bounds.ensures.few))
 
 lists_there : (g : Over) (c : goal.After-drop-bounds-inside-2 g) → AreLists c.args.rules.now c.args.table.now c.places-places.result.now c.series.result.now c.as_slice.result.now c.in_ok-bounds.bounds c.as_slice-2.result.now
 lists_there g c = record {
   places_are = c.places-places.ensures.places;
   values_are = c.series.ensures.values;
-  weights_are = c.as_slice.ensures.value ∙ c.in_ok-weights.ensures.weights;
+  weights_are = c.as_slice.ensures.value ∙ c.in_ok-weights.ensures;
   bounds_are = c.in_ok-bounds.ensures.made;
   prices_are = c.as_slice-2.ensures.value ∙ c.in_ok-prices.ensures ∙ ap (prices_of c.args.rules.now) c.in_ok-bounds.ensures.made;
 }
