@@ -9,9 +9,17 @@ use Rattle.bound_graph.specs.Cycle.{IsNegativeCycle}
 use Rattle.bound_graph.proofs.Cycles.{over, over-rotated}
 use Rattle.flow_core.specs.State.{NetworkState, one_if, unit_balance}
 use Rattle.flow_core.specs.Views.{residual_arcs}
-use Rattle.cancel_flow.specs.Cycles.{arc_of, HasRoom, HaveRoom, IsResidualCycle}
-use Rattle.cancel_flow.proofs.Numbers.{found}
+use Rattle.cancel_flow.specs.Cycles.{HasRoom, HaveRoom}
+use Rattle.cancel_flow.proofs.Numbers.{arc_of, found}
 use Rattle.cancel_flow.proofs.Views.{all_get}
+
+-- Residual arcs by their numbers, none of them twice, that enter each node as often as they leave it, and whose costs
+-- have a negative sum.
+pub record IsResidualCycle (net : NetworkState) (numbers : List ℕ) : Type 0 where
+  pub room : HaveRoom net (pos 1) numbers
+  pub apart : (i j : ℕ) → i < j → j < length numbers → get_or numbers i 0 ≢ get_or numbers j 0
+  pub closed : (node : ℕ) → total (map (λ number. unit_balance node (arc_of net.network number)) numbers) ≡ pos 0
+  pub negative : total (map (λ number. (arc_of net.network number).cost) numbers) ≤ℤ negsuc 0
 
 -- each number has room, and its arc is the one in the cycle
 record AreFound (net : NetworkState) (numbers : List ℕ) (cycle : List Arc) : Type 0 where

@@ -1,15 +1,19 @@
 -- The arc or reverse of a number, where it is residual.
-use Rattle.std.proofs.Common.{◌≡◌, ◌≢◌, ℕ, zero, suc, ◌+◌, ◌*◌, ◌/◌, ◌%◌, ◌<◌, ◌≤◌, Bool, true, false, cond, ℤ, pos, negsuc, ◌≤ℤ◌, List, length, get_or, Option, Some, None, refl, sym, ap, ◌∙◌, subst, ⊎_elim, arith}
+use Rattle.std.proofs.Common.{◌≡◌, ◌≢◌, ℕ, zero, suc, ◌+◌, ◌*◌, ◌/◌, ◌%◌, ◌<◌, ◌≤◌, Bool, true, false, cond, if◌then◌else◌, ℤ, pos, negsuc, ◌≤ℤ◌, List, length, get_or, Option, Some, None, refl, sym, ap, ◌∙◌, subst, ⊎_elim, arith}
 use Rattle.std.specs.Int.{int_min, is_positive}
 use Rattle.std.proofs.lemmas.Int.{ints}
 use Rattle.std.proofs.lemmas.Bool.{eqb-true, eqb-false, cases_eq, cases_lt}
 use Rattle.bound_graph.specs.declared.arc.Arc.{Arc}
 use Rattle.bound_graph.specs.Arcs.{arc_at}
-use Rattle.flow_core.specs.Layout.{arcs_of, no_arc}
+use Rattle.flow_core.specs.Layout.{FlowNetwork, arcs_of, arc_numbered, no_arc}
 use Rattle.flow_core.specs.State.{NetworkState}
 use Rattle.flow_core.specs.Views.{reversed, is_residual, residual_arcs}
 use Rattle.flow_core.proofs.BothWays.{both_ways, none_past, arc_there, arc_back, residual_at}
-use Rattle.cancel_flow.specs.Cycles.{is_back, arc_of, room_of, HasRoom, HaveRoom}
+use Rattle.cancel_flow.specs.Cycles.{is_back, room_of, HasRoom, HaveRoom}
+
+-- the arc or reverse of a number
+abbrev pub arc_of : FlowNetwork → ℕ → Arc
+arc_of network number = if is_back number then reversed (arc_numbered network (number / 2)) else arc_numbered network (number / 2)
 
 pub above_zero : (z : ℤ) → is_positive z ≡ true → pos 1 ≤ℤ z
 above_zero (pos zero) test = absurd cc

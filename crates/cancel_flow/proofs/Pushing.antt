@@ -15,7 +15,26 @@ use Rattle.flow_core.specs.Layout.{FlowNetwork, arcs_of, arc_numbered, no_arc, n
 use Rattle.flow_core.specs.State.{NetworkState, IsNetwork, flow_on, added, rise_by, pushed, unit_balance, balance, value}
 use Rattle.flow_core.specs.Views.{reversed}
 use Rattle.flow_core.proofs.Sizes.{length-flows, costs_so_far_small, costs_of}
-use Rattle.cancel_flow.specs.Cycles.{is_back, arc_of, room_of, HaveRoom, IsOdd, IsPartway, IsPushedAlong, IsResidualCycle}
+use Rattle.cancel_flow.specs.Cycles.{is_back, room_of, HaveRoom}
+use Rattle.cancel_flow.proofs.Cycles.{IsResidualCycle}
+use Rattle.cancel_flow.proofs.Numbers.{arc_of}
+
+-- of the reverse of an arc it is what it is of the arc, negated
+abbrev pub IsOdd : (Arc → ℤ) → Type 0
+IsOdd f = (arc : Arc) → f (reversed arc) ≡ pos 0 -ℤ f arc
+
+-- An amount was pushed along each of the arcs and reverses: sums over all arcs, as the balance at a node and the cost, rose
+-- by what it brings on each of them.
+pub record IsPushedAlong (old new : NetworkState) (amount : ℤ) (numbers : List ℕ) : Type 0 where
+  pub network : new.network ≡ old.network
+  pub is : IsNetwork new
+  pub sums : (f : Arc → ℤ) → IsOdd f → inner_product new.flows (map f (arcs_of old.network))
+      ≡ inner_product old.flows (map f (arcs_of old.network)) +ℤ (amount *ℤ total (map (λ number. f (arc_of old.network number)) numbers))
+
+-- So much was pushed along the first arcs and reverses of a list, and each of the others has room for it.
+pub record IsPartway (old new : NetworkState) (amount : ℤ) (numbers : List ℕ) (count : ℕ) : Type 0 where
+  pub pushed : IsPushedAlong old new amount (take count numbers)
+  pub left : (i : ℕ) → count ≤ i → i < length numbers → amount ≤ℤ room_of new (get_or numbers i 0)
 
 -- ---- one push
 

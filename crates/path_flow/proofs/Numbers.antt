@@ -1,5 +1,5 @@
 -- The numbers of arcs and reverses, and those that leave a node.
-use Rattle.std.proofs.Common.{◌≡◌, ℕ, zero, suc, ◌+◌, ◌*◌, ◌/◌, ◌%◌, ◌<◌, Bool, true, false, eqb, List, [], ◌∷◌, length, get_or, refl, sym, ap, ◌∙◌, arith}
+use Rattle.std.proofs.Common.{◌≡◌, ℕ, zero, suc, ◌+◌, ◌*◌, ◌/◌, ◌%◌, ◌<◌, Bool, true, false, if◌then◌else◌, eqb, List, [], ◌∷◌, length, get_or, refl, sym, ap, ◌∙◌, arith}
 use Rattle.std.specs.Prelude.{Contains}
 use Rattle.std.proofs.lemmas.Bool.{eq-eqb, ne_eqb}
 use Rattle.std.proofs.lemmas.Option.{slice_get-get_or, slice_get_within, get_or_from_slice_get}
@@ -10,7 +10,11 @@ use Rattle.flow_core.specs.Layout.{FlowNetwork, arcs_of, arc_numbered, no_arc}
 use Rattle.flow_core.specs.Views.{with_reverses}
 use Rattle.flow_core.proofs.BothWays.{length-with_reverses}
 use Rattle.flow_core.proofs.Elements.{half_more}
-use Rattle.path_flow.specs.Search.{arc_both_ways, is_odd, number_of, turned}
+use Rattle.path_flow.specs.Search.{arc_both_ways, is_odd, turned}
+
+-- the number of an arc or of its reverse
+abbrev pub number_of : ℕ → Bool → ℕ
+number_of arc back = if back then 2 * arc + 1 else 2 * arc
 
 pub number_half : (arc : ℕ) (back : Bool) → number_of arc back / 2 ≡ arc
 number_half arc true = omega arith

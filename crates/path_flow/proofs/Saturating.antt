@@ -1,7 +1,7 @@
 -- Arcs saturated, one after the other.
 use Rattle.std.proofs.Common.{◌≡◌, ◌≢◌, ℕ, zero, suc, ◌+◌, ◌*◌, ◌-◌, ◌<◌, ◌≤◌, true, false, eqb, ℤ, pos, negsuc, ◌+ℤ◌, ◌-ℤ◌, ◌≤ℤ◌, ◌<ℤ◌, List, length, get_or, set, take, sum, count_by, cond, not, ◌/◌, refl, sym, ap, ◌∙◌, subst, ⊎_elim, arith, get_or-set_same, get_or-set_other}
 use Rattle.std.proofs.lemmas.Int.{ints}
-use Rattle.std.proofs.lemmas.Bool.{cases_eq, cases_lt, eq-eqb, ne_eqb}
+use Rattle.std.proofs.lemmas.Bool.{cases_eq, eq-eqb, ne_eqb}
 use Rattle.std.proofs.lemmas.List.{get_or_append_left, get_or-append-add, get_or_past}
 use Rattle.std.proofs.lemmas.List.Sums.{count_by_more_no, count_by_more_yes}
 use Rattle.std.specs.Int.{is_positive}
@@ -20,7 +20,6 @@ use Rattle.path_flow.specs.Flow.{excess_units, positive_size}
 use Rattle.path_flow.proofs.Sums.{positive_less, positive_more}
 use Rattle.path_flow.specs.Steps.{HasNoNegative, reduced_cost}
 use Rattle.path_flow.specs.Saturation.{Saturates, IsSaturated}
-use Rattle.path_flow.specs.Searching.{AreFree}
 use Rattle.path_flow.proofs.Views.{free_respects}
 
 -- an arc that is empty, and of which the reduced cost is not negative

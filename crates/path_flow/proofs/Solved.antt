@@ -12,11 +12,10 @@ use Rattle.flow_core.specs.Views.{bare_arcs, is_bare, is_residual, tight_arcs}
 use Rattle.flow_core.proofs.Sizes.{length-arcs_of}
 use Rattle.flow_core.proofs.Totals.{everywhere}
 use Rattle.std.specs.Prelude.{unsigned_abs}
-use Rattle.std.proofs.lemmas.List.Folds.{sum_by-replicate}
 use Rattle.words.specs.Lists.{total}
 use Rattle.bound_graph.specs.Cycle.{IsNegativeCycle}
 use Rattle.bound_graph.proofs.Cycles.{forbids}
-use Rattle.path_flow.specs.Flow.{IsLeft, excess_units, most_units, positive_size, units_left}
+use Rattle.path_flow.specs.Flow.{IsLeft, excess_units, most_units, units_left}
 use Rattle.path_flow.specs.Steps.{HasNoNegative, HasNoNegatives}
 use Rattle.path_flow.specs.Searching.{AreFree}
 use Rattle.path_flow.proofs.Saturating.{above_zero}

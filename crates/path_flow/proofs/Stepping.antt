@@ -1,5 +1,5 @@
 -- A search goes over one step more.
-use Rattle.std.proofs.Common.{◌≡◌, ℕ, zero, suc, ◌+◌, ◌/◌, ◌<◌, Bool, true, false, ℤ, pos, ◌≤ℤ◌, ◌<ℤ◌, List, [], ◌∷◌, ◌++◌, Option, None, Some, length, get_or, set, inl, inr, refl, sym, ap, ◌∙◌, subst, ⊎_elim, arith, get_or-set_same}
+use Rattle.std.proofs.Common.{◌≡◌, ℕ, zero, suc, ◌+◌, ◌/◌, ◌<◌, Bool, true, false, ℤ, pos, ◌≤ℤ◌, ◌<ℤ◌, List, [], ◌∷◌, ◌++◌, Option, None, Some, Contains, length, get_or, set, inl, inr, refl, sym, ap, ◌∙◌, subst, ⊎_elim, arith, get_or-set_same}
 use Rattle.std.proofs.lemmas.Int.{ints, clamps, by_lt_z}
 use Rattle.std.proofs.lemmas.List.{length-set}
 use Rattle.words.proofs.Lists.{contains_cases}
@@ -9,14 +9,18 @@ use Rattle.flow_core.proofs.Sizes.{arc_valid}
 use Rattle.path_flow.specs.declared.search.Task.{Task}
 use Rattle.path_flow.specs.declared.search.Label.{Label}
 use Rattle.path_flow.specs.Steps.{HasNoNegative}
-use Rattle.path_flow.specs.Search.{HasRoom, IsNear, arc_both_ways, is_odd, label_after, label_at, number_of, step_length, takes_from, turned}
+use Rattle.path_flow.specs.Search.{HasRoom, IsNear, arc_both_ways, is_odd, label_after, label_at, step_length, takes_from, turned}
 use Rattle.path_flow.specs.Reach.{Reach, is_better, lowered}
-use Rattle.path_flow.specs.Searching.{IsAmong, IsLast, IsSearching, key_at, one_if_open, open_nodes}
+use Rattle.path_flow.specs.Searching.{IsLast, IsSearching, key_at, one_if_open, open_nodes}
 use Rattle.path_flow.proofs.Expanding.{IsBetter, last_stays, lowered_keeps, passed, settled_apart, with_label}
-use Rattle.path_flow.proofs.Numbers.{number_half, number_odd}
+use Rattle.path_flow.proofs.Numbers.{number_half, number_odd, number_of}
 use Rattle.path_flow.proofs.Reaching.{lower_by_test, not_lower_by_test, lowered_again, lowered_first, lowered_not}
 use Rattle.path_flow.proofs.Shifting.{lengths_not_negative, turned_valid}
 use Rattle.path_flow.proofs.Trees.{room_some, same_label}
+
+-- the step is that of one of the numbers
+abbrev pub IsAmong : List ℕ → ℕ → Bool → Type 0
+IsAmong numbers arc back = Contains numbers (number_of arc back)
 
 -- ---- how many nodes are open
 

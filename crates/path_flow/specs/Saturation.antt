@@ -1,8 +1,8 @@
 -- For proofs: arcs that are saturated.
-use Rattle.std.specs.Prelude.{◌≡◌, ◌≢◌, ℕ, ◌+◌, ◌<◌, ◌≤◌, pos, ◌≤ℤ◌, length, get_or, false}
+use Rattle.std.specs.Prelude.{◌≡◌, ◌≢◌, ℕ, ◌+◌, ◌<◌, ◌≤◌, pos, ◌≤ℤ◌, get_or}
 use Rattle.words.specs.Lists.{total}
-use Rattle.flow_core.specs.Layout.{arcs_of, capacity_numbered}
-use Rattle.flow_core.specs.State.{NetworkState, flow_on, residual_of}
+use Rattle.flow_core.specs.Layout.{capacity_numbered}
+use Rattle.flow_core.specs.State.{NetworkState, flow_on}
 use Rattle.path_flow.specs.Flow.{excess_units}
 use Rattle.path_flow.specs.Steps.{HasNoNegative, reduced_cost}
 

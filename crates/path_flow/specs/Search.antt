@@ -1,5 +1,5 @@
 -- For proofs: searches over residual arcs, the paths that they find, and the potentials after them.
-use Rattle.std.specs.Prelude.{◌≡◌, ◌≢◌, ◌⊎◌, ℕ, ◌+◌, ◌*◌, ◌/◌, ◌%◌, ◌^◌, ◌<◌, ◌≤◌, ◌==◌, not, Bool, true, if◌then◌else◌, ℤ, pos, negsuc, ◌+ℤ◌, ◌-ℤ◌, ◌≤ℤ◌, ◌<ℤ◌, List, length, get_or, Option, Some, None, IfSome, unsigned_abs}
+use Rattle.std.specs.Prelude.{◌≡◌, ◌≢◌, ◌⊎◌, ℕ, ◌+◌, ◌/◌, ◌%◌, ◌^◌, ◌<◌, ◌≤◌, ◌==◌, not, Bool, true, if◌then◌else◌, ℤ, pos, negsuc, ◌+ℤ◌, ◌-ℤ◌, ◌≤ℤ◌, ◌<ℤ◌, List, length, get_or, Option, Some, None, IfSome, unsigned_abs}
 use Rattle.std.specs.Int.{int_min}
 use Rattle.bound_graph.specs.declared.arc.Arc.{Arc}
 use Rattle.bound_graph.specs.Values.{value_of}
@@ -57,9 +57,6 @@ abbrev pub IsEnd : NetworkState → Task → ℕ → Type 0
 IsEnd net task node = ((node ≡ 0) × (task.ends_at_zero ≡ true)) ⊎ IsOpposite net task.direction node
 
 -- ---- labels
-
-abbrev pub number_of : ℕ → Bool → ℕ
-number_of arc back = if back then 2 * arc + 1 else 2 * arc
 
 -- how a node is reached by the step of a number, from a node that was reached so
 abbrev pub label_after : NetworkState → Direction → Label → ℕ → Label

@@ -1,10 +1,10 @@
 -- For proofs: what holds while a search goes on.
-use Rattle.std.specs.Prelude.{◌≡◌, ◌≢◌, ◌⊎◌, ℕ, ◌+◌, Bool, false, ℤ, pos, ◌≤ℤ◌, List, [], ◌∷◌, get_or, Option, Some, None, Contains}
+use Rattle.std.specs.Prelude.{◌≡◌, ◌≢◌, ◌⊎◌, ℕ, ◌+◌, Bool, false, ℤ, pos, ◌≤ℤ◌, List, [], ◌∷◌, get_or, Option, Some, None}
 use Rattle.flow_core.specs.Layout.{arc_numbered}
 use Rattle.flow_core.specs.State.{NetworkState, residual_of}
 use Rattle.path_flow.specs.declared.search.Task.{Task}
 use Rattle.path_flow.specs.declared.search.Label.{Label}
-use Rattle.path_flow.specs.Search.{HasRoom, IsEnd, IsNear, IsTree, arc_both_ways, label_at, number_of, step_length, turned}
+use Rattle.path_flow.specs.Search.{HasRoom, IsEnd, IsNear, IsTree, arc_both_ways, label_at, step_length, turned}
 use Rattle.path_flow.specs.Reach.{IsKeyed, Reach}
 
 -- the key of a node that waits in the heap
@@ -38,10 +38,6 @@ nothing_left arc back = ⊥
 -- the steps from a node
 abbrev pub StepsFrom : NetworkState → ℕ → ℕ → Bool → Type 0
 StepsFrom net node arc back = (turned back (arc_numbered net.network arc)).tail ≡ node
-
--- the step is that of one of the numbers
-abbrev pub IsAmong : List ℕ → ℕ → Bool → Type 0
-IsAmong numbers arc back = Contains numbers (number_of arc back)
 
 -- how many nodes are not settled
 abbrev pub one_if_open : Option Label → Option ℤ → ℕ

@@ -2,9 +2,9 @@ use Rattle.std.proofs.Common.{◌+◌, ℤ, pos, ◌≤ℤ◌, sym, ◌∙◌, s
 use Rattle.std.proofs.lemmas.Int.{to_z-of_z}
 use Rattle.std.proofs.lemmas.Option.{get_or_from_slice_get, slice_get-get_or}
 use Rattle.flow_core.specs.State.{NetworkState}
-use Rattle.cancel_flow.specs.Cycles.{IsPartway, room_of}
+use Rattle.cancel_flow.specs.Cycles.{room_of}
 use Rattle.cancel_flow.proofs.Cycles.{residual_cycle}
-use Rattle.cancel_flow.proofs.Pushing.{begun, cancelled, inside, step}
+use Rattle.cancel_flow.proofs.Pushing.{IsPartway, begun, cancelled, inside, step}
 use Rattle.cancel_flow.proofs.cancel.push_around.Goals as goal
 use Rattle.cancel_flow.proofs.cancel.push_around.Goals.{in-Some, in_default}
 

@@ -1,4 +1,4 @@
-use Rattle.cancel_flow.specs.Cycles.{IsPartway}
+use Rattle.cancel_flow.proofs.Pushing.{IsPartway}
 use Rattle.cancel_flow.proofs.cancel.push_around.Given as goal
 
 abbrev pub invariant-loop-i : goal.invariant-loop-i

@@ -8,11 +8,11 @@ use Rattle.path_flow.specs.declared.search.Task.{Task}
 use Rattle.path_flow.specs.declared.search.Label.{Label}
 use Rattle.path_flow.specs.Reach.{Reach}
 use Rattle.path_flow.specs.Search.{label_at}
-use Rattle.path_flow.specs.Searching.{IsAmong, IsLast, IsSearching, StepsFrom}
+use Rattle.path_flow.specs.Searching.{IsLast, IsSearching, StepsFrom}
 use Rattle.path_flow.proofs.Trees.{distance_small, hops_small, same_label}
 use Rattle.path_flow.proofs.Numbers.{IsLeaving, leaving_is, is_leaving}
 use Rattle.path_flow.proofs.Expanding.{passed}
-use Rattle.path_flow.proofs.Stepping.{step_over}
+use Rattle.path_flow.proofs.Stepping.{IsAmong, step_over}
 use Rattle.path_flow.proofs.search.expand.Goals as goal
 
 is_at : (xs : List ℕ) (i d : ℕ) → i < length xs → get_or xs i d ≡ get_or xs i 0
