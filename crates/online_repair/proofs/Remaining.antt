@@ -1,4 +1,4 @@
--- What is refused at a front of a file is refused whatever follows.
+-- A file has an output, and one only; and what is refused at a front of it is refused whatever follows.
 use Rattle.std.proofs.Common.{◌≡◌, ◌&&◌, ℕ, Bool, true, false, cond, List, [], ◌∷◌, ◌++◌, refl, sym, ap, ◌∙◌, subst, append_assoc, append-nil}
 use Rattle.std.specs.Prelude.{IsSome, Option, Some, None, is_none, option_map}
 use Rattle.std.specs.Option.{option_or}
@@ -9,9 +9,9 @@ use Rattle.series_rows.specs.Texts.{header_text}
 use Rattle.series_rows.specs.declared.fault.TableFault.{TableFault}
 use Rattle.series_rows.specs.declared.limits.Limits.TheVariants.{Endless}
 use Rattle.series_csv.specs.Read.{Read}
-use Rattle.series_csv.specs.Stays.{Continues, FilesHaveOneAnswer, ReadStays}
+use Rattle.series_csv.specs.Stays.{Continues, FilesHaveAnswers, FilesHaveOneAnswer, ReadStays}
 use Rattle.online_repair.specs.Accepted.{Accepted, accept, greatest_window, held, refusal, unless_refused}
-use Rattle.online_repair.specs.Laws.{OutputsAreOne, RefusalsStay}
+use Rattle.online_repair.specs.Laws.{OutputsAreOne, OutputsExist, RefusalsStay}
 use Rattle.online_repair.specs.Output.{IsOutput, Output, Reads, leaving, output, output_of, output_with, texts}
 use Rattle.online_repair.specs.declared.fault.OnlineFault.{OnlineFault}
 use Rattle.online_repair.specs.declared.fault.OnlineFault.TheVariants.{Table}
@@ -24,6 +24,15 @@ use Rattle.online_repair.proofs.Taking.{and_false, kept_text, large_output}
 pub outputs_are_one : FilesHaveOneAnswer → OutputsAreOne
 outputs_are_one one = λ rules ended bytes first other is_first is_other.
     is_first.is ∙ sym (same_output one rules ended bytes is_first.read other is_first.reads is_other)
+
+some_read : FilesHaveAnswers → (rules : Rules) (ended : Bool) (bytes : List ℕ) → (read : Read) × Reads rules ended bytes read
+some_read files rules true bytes = (files rules Endless bytes).ended
+some_read files rules false bytes = (files rules Endless bytes).so_far
+
+pub outputs_exist : FilesHaveAnswers → OutputsExist
+outputs_exist files = λ rules ended bytes.
+    let found = some_read files rules ended bytes in
+    (output rules ended found.0, record { read = found.0; reads = found.1; is = refl })
 
 -- ---- which rows are accepted
 

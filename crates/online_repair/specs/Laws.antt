@@ -1,5 +1,5 @@
--- To be believed: what the repaired readings of the rows that are accepted are good for; and that the output of a file is one
--- only, and a refusal stays.
+-- To be believed: what the repaired readings of the rows that are accepted are good for; and that a file has an output, and
+-- one only, and a refusal stays.
 use Rattle.std.specs.Prelude.{◌≡◌, ℕ, Bool, false, ℤ, ◌-ℤ◌, ◌≤ℤ◌, List, [], ◌∷◌, ◌++◌, reverse, Some, option_map}
 use Rattle.rule_file.specs.declared.rules.Rules.{Rules}
 use Rattle.rule_file.specs.declared.rules.SpeedRule.{SpeedRule}
@@ -59,6 +59,10 @@ RepairsKeepRates = OfAccepted KeepRates
 -- the bytes of a file have one output only
 abbrev pub OutputsAreOne : Type 0
 OutputsAreOne = (rules : Rules) (ended : Bool) (bytes : List ℕ) (one other : Output) → IsOutput rules ended bytes one → IsOutput rules ended bytes other → one ≡ other
+
+-- and they have one, whatever they are
+abbrev pub OutputsExist : Type 0
+OutputsExist = (rules : Rules) (ended : Bool) (bytes : List ℕ) → (out : Output) × IsOutput rules ended bytes out
 
 -- What is refused at a front of a file is refused whatever follows, and whether it has ended: for the same reason, and with
 -- the same text.

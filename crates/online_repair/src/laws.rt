@@ -1,13 +1,20 @@
 //! Laws of the repaired rows and of the output. The contract of a function is the law; the call does nothing.
-ghost use Rattle.online_repair.specs.Laws.{OutputsAreOne, RefusalsStay, RepairsCostLeast, RepairsKeepRates};
+ghost use Rattle.online_repair.specs.Laws.{OutputsAreOne, OutputsExist, RefusalsStay, RepairsCostLeast, RepairsKeepRates};
 
-use series_csv::{one_answer, read_stays};
+use series_csv::{files_have_answers, one_answer, read_stays};
 
 /// The bytes of a file have one output only.
 pub fn outputs_are_one()
     ensures { OutputsAreOne }
 {
     one_answer();
+}
+
+/// All bytes have an output by all rules, whether the file has ended or goes on.
+pub fn outputs_exist()
+    ensures { OutputsExist }
+{
+    files_have_answers();
 }
 
 /// What is refused at a front of a file is refused whatever follows, and whether it has ended: for the same reason, and

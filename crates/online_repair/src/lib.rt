@@ -12,5 +12,7 @@ mod stream;
 mod track;
 
 pub use fault::OnlineFault;
-pub use laws::{outputs_are_one, refusals_stay, repairs_cost_least, repairs_keep_the_rates};
+pub use laws::{
+    outputs_are_one, outputs_exist, refusals_stay, repairs_cost_least, repairs_keep_the_rates,
+};
 pub use online::Online;
