@@ -12,7 +12,7 @@ use Rattle.series_rows.specs.declared.cell.RowReading.{RowReading}
 use Rattle.order_window.specs.declared.key.Key.{Key}
 use Rattle.online_repair.specs.Accepted.{greatest_window, held, is_full, is_ready, refusal, without_step}
 use Rattle.online_repair.specs.Engines.{AreRows, Stands, due_part, is_full_at, rest_part}
-use Rattle.online_repair.specs.Keeping.{Accepts, AcceptsBy, AreBefore, IsNext, Keeps}
+use Rattle.online_repair.specs.Keeping.{Accepts, AcceptsBy, AreBefore, IsNext, KeepsRows}
 use Rattle.online_repair.specs.Rows.{keys_in, reading_in, with_key}
 use Rattle.online_repair.specs.Sensors.{HaveSeen, IsTimeBefore, WereSeenBefore, lacks_step_at, latest, place_in}
 use Rattle.online_repair.specs.Standing.{AreStanding}
@@ -45,19 +45,19 @@ full_same : (hold : ℕ) (most : ℤ) (items : List RowView) (row : RowView) →
 full_same hold most [] row = refl
 full_same hold most (oldest ∷ items) row = refl
 
-pub full_is : (rules : Rules) (header : HeaderView) (accepted : List RowView) (engine : Engine) (row : RowView) → Keeps rules header accepted engine → is_full_at engine.held.capacity engine.most engine.held.items row.ticks ≡ is_full rules.format.hold (greatest_window rules.speeds) (held (greatest_window rules.speeds) accepted) row
+pub full_is : (rules : Rules) (header : HeaderView) (accepted : List RowView) (engine : Engine) (row : RowView) → KeepsRows rules header accepted engine → is_full_at engine.held.capacity engine.most engine.held.items row.ticks ≡ is_full rules.format.hold (greatest_window rules.speeds) (held (greatest_window rules.speeds) accepted) row
 full_is rules header accepted engine row keeps =
     ap (λ (hold : ℕ). is_full_at hold engine.most engine.held.items row.ticks) keeps.room_is
     ∙ ap (λ (items : List RowView). is_full_at rules.format.hold engine.most items row.ticks) keeps.held_is
     ∙ ap (λ (most : ℤ). is_full_at rules.format.hold most (held most accepted) row.ticks) keeps.most_is
     ∙ full_same rules.format.hold (greatest_window rules.speeds) (held (greatest_window rules.speeds) accepted) row
 
-pub refused_full : (rules : Rules) (header : HeaderView) (accepted : List RowView) (engine : Engine) (row : RowView) → Keeps rules header accepted engine → is_full_at engine.held.capacity engine.most engine.held.items row.ticks ≡ true → refusal rules header accepted row ≡ Some (WindowFull (suc (length accepted)))
+pub refused_full : (rules : Rules) (header : HeaderView) (accepted : List RowView) (engine : Engine) (row : RowView) → KeepsRows rules header accepted engine → is_full_at engine.held.capacity engine.most engine.held.items row.ticks ≡ true → refusal rules header accepted row ≡ Some (WindowFull (suc (length accepted)))
 refused_full rules header accepted engine row keeps full =
     let number = suc (length accepted) in
     ap (λ (b : Bool). cond b (Some (WindowFull number)) (option_map (λ (reading : RowReading). NoWholeStep number reading.col) (without_step rules header accepted row))) (sym (full_is rules header accepted engine row keeps) ∙ full)
 
-not_refused_full : (rules : Rules) (header : HeaderView) (accepted : List RowView) (engine : Engine) (row : RowView) → Keeps rules header accepted engine → is_full_at engine.held.capacity engine.most engine.held.items row.ticks ≡ false → refusal rules header accepted row ≡ option_map (λ (reading : RowReading). NoWholeStep (suc (length accepted)) reading.col) (without_step rules header accepted row)
+not_refused_full : (rules : Rules) (header : HeaderView) (accepted : List RowView) (engine : Engine) (row : RowView) → KeepsRows rules header accepted engine → is_full_at engine.held.capacity engine.most engine.held.items row.ticks ≡ false → refusal rules header accepted row ≡ option_map (λ (reading : RowReading). NoWholeStep (suc (length accepted)) reading.col) (without_step rules header accepted row)
 not_refused_full rules header accepted engine row keeps full =
     let number = suc (length accepted) in
     ap (λ (b : Bool). cond b (Some (WindowFull number)) (option_map (λ (reading : RowReading). NoWholeStep number reading.col) (without_step rules header accepted row))) (sym (full_is rules header accepted engine row keeps) ∙ full)
@@ -76,26 +76,26 @@ col_none : (number : ℕ) (o : Option RowReading) → None ≡ option_map (λ (r
 col_none number None e = refl
 col_none number (Some reading) e = absurd (some_none_col reading.col (sym e))
 
-step_is : (rules : Rules) (header : HeaderView) (accepted : List RowView) (engine : Engine) (row : RowView) (answer : Option ℕ) → Keeps rules header accepted engine → answer ≡ option_map (λ (reading : RowReading). reading.col) (find (λ (reading : RowReading). lacks_step_at (place_in reading.col engine.tracks.items) engine.tracks.items row.ticks) row.readings)
+step_is : (rules : Rules) (header : HeaderView) (accepted : List RowView) (engine : Engine) (row : RowView) (answer : Option ℕ) → KeepsRows rules header accepted engine → answer ≡ option_map (λ (reading : RowReading). reading.col) (find (λ (reading : RowReading). lacks_step_at (place_in reading.col engine.tracks.items) engine.tracks.items row.ticks) row.readings)
     → answer ≡ option_map (λ (reading : RowReading). reading.col) (without_step rules header accepted row)
 step_is rules header accepted engine row answer keeps e =
     e ∙ ap (λ (o : Option RowReading). option_map (λ (reading : RowReading). reading.col) o) (without_is rules header accepted row engine.tracks.items keeps.stands.tracks.of_rules keeps.seen)
 
-pub refused_step : (rules : Rules) (header : HeaderView) (accepted : List RowView) (engine : Engine) (row : RowView) (col : ℕ) → Keeps rules header accepted engine → is_full_at engine.held.capacity engine.most engine.held.items row.ticks ≡ false
+pub refused_step : (rules : Rules) (header : HeaderView) (accepted : List RowView) (engine : Engine) (row : RowView) (col : ℕ) → KeepsRows rules header accepted engine → is_full_at engine.held.capacity engine.most engine.held.items row.ticks ≡ false
     → Some col ≡ option_map (λ (reading : RowReading). reading.col) (find (λ (reading : RowReading). lacks_step_at (place_in reading.col engine.tracks.items) engine.tracks.items row.ticks) row.readings)
     → refusal rules header accepted row ≡ Some (NoWholeStep (suc (length accepted)) col)
 refused_step rules header accepted engine row col keeps full e =
     not_refused_full rules header accepted engine row keeps full
     ∙ col_some (suc (length accepted)) col (without_step rules header accepted row) (step_is rules header accepted engine row (Some col) keeps e)
 
-pub not_refused : (rules : Rules) (header : HeaderView) (accepted : List RowView) (engine : Engine) (row : RowView) → Keeps rules header accepted engine → is_full_at engine.held.capacity engine.most engine.held.items row.ticks ≡ false
+pub not_refused : (rules : Rules) (header : HeaderView) (accepted : List RowView) (engine : Engine) (row : RowView) → KeepsRows rules header accepted engine → is_full_at engine.held.capacity engine.most engine.held.items row.ticks ≡ false
     → None ≡ option_map (λ (reading : RowReading). reading.col) (find (λ (reading : RowReading). lacks_step_at (place_in reading.col engine.tracks.items) engine.tracks.items row.ticks) row.readings)
     → refusal rules header accepted row ≡ None
 not_refused rules header accepted engine row keeps full e =
     not_refused_full rules header accepted engine row keeps full
     ∙ col_none (suc (length accepted)) (without_step rules header accepted row) (step_is rules header accepted engine row None keeps e)
 
-pub length_kept : (rules : Rules) (header : HeaderView) (accepted : List RowView) (engine : Engine) → Keeps rules header accepted engine → length accepted ≡ engine.written + length engine.held.items
+pub length_kept : (rules : Rules) (header : HeaderView) (accepted : List RowView) (engine : Engine) → KeepsRows rules header accepted engine → length accepted ≡ engine.written + length engine.held.items
 length_kept rules header accepted engine keeps =
     omega (arith, ap length keeps.joined, length-append (reverse keeps.before) engine.held.items, length-reverse keeps.before, keeps.stands.written_is)
 
@@ -181,7 +181,7 @@ same_stands rules header before old new same stands =
       few = omega (arith, stands.few, ap length same.items);
     }
 
-pub may_store : (rules : Rules) (header : HeaderView) (accepted : List RowView) (row : RowView) (engine same : Engine) → (keeps : Keeps rules header accepted engine) → IsNext accepted row → is_full_at engine.held.capacity engine.most engine.held.items row.ticks ≡ false
+pub may_store : (rules : Rules) (header : HeaderView) (accepted : List RowView) (row : RowView) (engine same : Engine) → (keeps : KeepsRows rules header accepted engine) → IsNext accepted row → is_full_at engine.held.capacity engine.most engine.held.items row.ticks ≡ false
     → IsLikeEngine engine same → MayStore rules header keeps.before row same
 may_store rules header accepted row engine same keeps next full like =
     let J : List RowView → Type 0 = λ rows. AreBefore row.ticks rows in
@@ -219,14 +219,14 @@ joined_by front items due rest row e =
 
 -- ---- the answers
 
-pub full_refused : (rules : Rules) (header : HeaderView) (accepted : List RowView) (row : RowView) (engine new : Engine) (text : List ℕ) (number : ℕ) → (keeps : Keeps rules header accepted engine) → is_full_at engine.held.capacity engine.most engine.held.items row.ticks ≡ true
+pub full_refused : (rules : Rules) (header : HeaderView) (accepted : List RowView) (row : RowView) (engine new : Engine) (text : List ℕ) (number : ℕ) → (keeps : KeepsRows rules header accepted engine) → is_full_at engine.held.capacity engine.most engine.held.items row.ticks ≡ true
     → number ≡ suc (length accepted) → Accepts rules header accepted row (Err (WindowFull number)) engine keeps new text text
 full_refused rules header accepted row engine new text number keeps full e =
     let A : Option OnlineFault → Type 0 = λ o. AcceptsBy o rules header accepted keeps.before (due_part engine.most row.ticks engine.held.items) (rest_part engine.most row.ticks engine.held.items) row (Err (WindowFull number)) new text text in
     let same : ◌≡◌ {A = Result (Unit {0}) OnlineFault} (Err (WindowFull number)) (Err (WindowFull (suc (length accepted)))) = ap (λ (n : ℕ). Err (WindowFull n)) e in
     subst A (sym (refused_full rules header accepted engine row keeps full)) (same, refl)
 
-pub step_refused : (rules : Rules) (header : HeaderView) (accepted : List RowView) (row : RowView) (engine new : Engine) (text : List ℕ) (number col : ℕ) → (keeps : Keeps rules header accepted engine) → is_full_at engine.held.capacity engine.most engine.held.items row.ticks ≡ false
+pub step_refused : (rules : Rules) (header : HeaderView) (accepted : List RowView) (row : RowView) (engine new : Engine) (text : List ℕ) (number col : ℕ) → (keeps : KeepsRows rules header accepted engine) → is_full_at engine.held.capacity engine.most engine.held.items row.ticks ≡ false
     → Some col ≡ option_map (λ (reading : RowReading). reading.col) (find (λ (reading : RowReading). lacks_step_at (place_in reading.col engine.tracks.items) engine.tracks.items row.ticks) row.readings)
     → number ≡ suc (length accepted) → Accepts rules header accepted row (Err (NoWholeStep number col)) engine keeps new text text
 step_refused rules header accepted row engine new text number col keeps full lacks e =

@@ -10,7 +10,7 @@ use Rattle.series_rows.specs.Row.{RowView}
 use Rattle.series_rows.specs.declared.limits.TheConstants.{MOST_ENDLESS_ROWS}
 use Rattle.online_repair.specs.Accepted.{greatest_window}
 use Rattle.online_repair.specs.Engines.{AreRows}
-use Rattle.online_repair.specs.Keeping.{Keeps}
+use Rattle.online_repair.specs.Keeping.{KeepsRows}
 use Rattle.online_repair.specs.Rows.{keys_in}
 use Rattle.online_repair.specs.Sensors.{AreTracksOf, HaveSeen, IsNew}
 use Rattle.online_repair.specs.Shown.{AreShown}
@@ -36,7 +36,7 @@ new_stands rules rule col track new = record {
 }
 
 pub keeps_none : (rules : Rules) (header : HeaderView) (engine : Engine) → engine.most ≡ greatest_window rules.speeds → AreTracksOf rules header engine.tracks.items → HaveSeen [] engine.tracks.items → AllByRecursion IsNew engine.tracks.items → engine.held ≡ buffer [] rules.format.hold → engine.written ≡ 0
-    → Keeps rules header [] engine
+    → KeepsRows rules header [] engine
 keeps_none rules header engine most tracks seen new held_is written =
     let items = ap (λ (h : Buffer RowView). h.items) held_is in
     let limits = rules.format.limits in

@@ -9,7 +9,7 @@ use Rattle.series_rows.specs.Row.{RowView}
 use Rattle.series_rows.specs.Texts.{row_text_with}
 use Rattle.series_rows.specs.declared.cell.RowReading.{RowReading}
 use Rattle.online_repair.specs.Engines.{Stands, WritesRows}
-use Rattle.online_repair.specs.Keeping.{EndStops, Ends, EndsWell, Keeps}
+use Rattle.online_repair.specs.Keeping.{EndStops, Ends, EndsWell, KeepsRows}
 use Rattle.online_repair.specs.Output.{leaving, texts, too_large}
 use Rattle.online_repair.specs.Rows.{repaired_row}
 use Rattle.online_repair.specs.Shown.{AreShown, AreSmallRows}
@@ -126,7 +126,7 @@ end_stops rules header accepted before items fault text now joined shown stop =
           );
     }
 
-pub ends : (rules : Rules) (header : HeaderView) (accepted : List RowView) (engine new : Engine) (result : Result (Unit {0}) OnlineFault) (text now : List ℕ) → (keeps : Keeps rules header accepted engine) → WritesRows rules header keeps.before engine.held.items [] result engine new text now → Ends rules header accepted result new text now
+pub ends : (rules : Rules) (header : HeaderView) (accepted : List RowView) (engine new : Engine) (result : Result (Unit {0}) OnlineFault) (text now : List ℕ) → (keeps : KeepsRows rules header accepted engine) → WritesRows rules header keeps.before engine.held.items [] result engine new text now → Ends rules header accepted result new text now
 ends rules header accepted engine new (Ok done) text now keeps writes =
     let are = are_written rules header keeps.before engine.held.items [] done engine new text now writes in
     ends_well rules header accepted keeps.before engine.held.items new text now keeps.joined keeps.shown are.small are.text_is are.stands are.held

@@ -17,7 +17,7 @@ use Rattle.series_csv.specs.declared.event.Event.{Event}
 use Rattle.online_repair.specs.Accepted.{Accepted, accept}
 use Rattle.online_repair.specs.Faults.{fault_of}
 use Rattle.online_repair.specs.Feeds.{Answers, Appends, AppendsPart}
-use Rattle.online_repair.specs.Keeping.{Ends, HasKept, Keeps}
+use Rattle.online_repair.specs.Keeping.{Ends, HasKept, KeepsRows}
 use Rattle.online_repair.specs.Output.{IsOutput, Output, leaving, output, output_of, output_with, texts}
 use Rattle.online_repair.specs.StandsFor.{EngineEnded, EngineKeeps, GoesOn}
 use Rattle.online_repair.specs.Streams.{Finishes, HasReadLast, MayTake, ReadsLast, StopsAll, StopsBy, TakesEvent}
@@ -151,13 +151,13 @@ last_refused one stay rules bytes fault old text goes ends =
 pub record IsAll (rules : Rules) (read : Read) (engine : Engine) : Type 0 where
   pub header : HeaderView
   pub header_is : read.header ≡ Some header
-  pub keeps : Keeps rules header read.rows engine
+  pub keeps : KeepsRows rules header read.rows engine
   pub none_refused : accept rules header [] read.rows None ≡ all_of read.rows
 
 all_by : (rules : Rules) (header found : Option HeaderView) (rows : List RowView) (read : Read) (engine : Engine) → read.header ≡ found → read.rows ≡ rows → EngineKeeps rules found rows (Some engine) → IsAll rules read engine
 all_by rules header None rows read engine e f keeps = absurd keeps
 all_by rules header (Some found) rows read engine e f keeps =
-    let K : List RowView → Type 0 = λ rs. Keeps rules found rs engine in
+    let K : List RowView → Type 0 = λ rs. KeepsRows rules found rs engine in
     let N : List RowView → Type 0 = λ rs. accept rules found [] rs None ≡ all_of rs in
     record { header = found; header_is = e; keeps = subst K (sym f) keeps.0; none_refused = subst N (sym f) keeps.1 }
 
@@ -254,7 +254,7 @@ has_kept rules bytes stream engine old text last same =
 
 -- by the engine's contract
 abbrev pub EndsAll : Rules → Result (Unit {0}) OnlineFault → Engine → Engine → List ℕ → List ℕ → Type 0
-EndsAll rules result engine closed text now = (header : HeaderView) (accepted : List RowView) → Keeps rules header accepted engine → Ends rules header accepted result closed text now
+EndsAll rules result engine closed text now = (header : HeaderView) (accepted : List RowView) → KeepsRows rules header accepted engine → Ends rules header accepted result closed text now
 
 pub closed : FilesHaveOneAnswer → (rules : Rules) (bytes : List ℕ) (middle new : Stream) (engine closed_engine : Engine) (result : Result (Unit {0}) OnlineFault) (old text now : List ℕ) → HasReadLast rules bytes middle old text → middle.engine ≡ Some engine → new.engine ≡ Some closed_engine → EndsAll middle.rules.now result engine closed_engine text now
     → Finishes rules bytes result new old now

@@ -11,7 +11,7 @@ use Rattle.series_rows.specs.Row.{RowView}
 use Rattle.series_rows.specs.declared.cell.RowReading.{RowReading}
 use Rattle.online_repair.specs.Accepted.{held}
 use Rattle.online_repair.specs.Engines.{due_part, is_full_at, rest_part}
-use Rattle.online_repair.specs.Keeping.{Accepts, AcceptsBy, Holds, IsNext, Keeps}
+use Rattle.online_repair.specs.Keeping.{Accepts, AcceptsBy, Holds, IsNext, KeepsRows}
 use Rattle.online_repair.specs.Sensors.{HaveSeen, lacks_step_at, place_in}
 use Rattle.online_repair.specs.Storing.{ArePast, IsStored, StoresOf, onto}
 use Rattle.online_repair.specs.declared.engine.Engine.{Engine}
@@ -34,7 +34,7 @@ record IsMore (rules : Rules) (header : HeaderView) (before items : List RowView
   shown : AreShown rules header (onto (due_part most row.ticks items) before) (rest_part most row.ticks items ++ row ∷ [])
   text_is : texts rules header false [] (reverse before ++ items ++ row ∷ []) ≡ texts rules header false [] (reverse before ++ items) ++ rows_text rules header before (due_part most row.ticks items) (rest_part most row.ticks items)
 
-row_more : (rules : Rules) (header : HeaderView) (accepted : List RowView) (row : RowView) (engine : Engine) → (keeps : Keeps rules header accepted engine) → IsNext accepted row → AreSmallRows rules header keeps.before (due_part engine.most row.ticks engine.held.items) (rest_part engine.most row.ticks engine.held.items)
+row_more : (rules : Rules) (header : HeaderView) (accepted : List RowView) (row : RowView) (engine : Engine) → (keeps : KeepsRows rules header accepted engine) → IsNext accepted row → AreSmallRows rules header keeps.before (due_part engine.most row.ticks engine.held.items) (rest_part engine.most row.ticks engine.held.items)
     → IsMore rules header keeps.before engine.held.items row engine.most
 row_more rules header accepted row engine keeps next small =
     let items = engine.held.items in
@@ -44,8 +44,8 @@ row_more rules header accepted row engine keeps next small =
     let more = one_more rules header keeps.before items row keeps.shown keeps.stands.rows (subst P keeps.most_is (keeps.past row.ticks next.later)) (subst S keeps.most_is small) in
     subst M (sym keeps.most_is) (record { shown = more.shown; text_is = more.text_is })
 
-pub keeps_next : (rules : Rules) (header : HeaderView) (accepted : List RowView) (row : RowView) (engine same new : Engine) (text now : List ℕ) → (keeps : Keeps rules header accepted engine) → IsNext accepted row → is_full_at engine.held.capacity engine.most engine.held.items row.ticks ≡ false
-    → IsLikeEngine engine same → IsStored rules header keeps.before (due_part engine.most row.ticks engine.held.items) (rest_part engine.most row.ticks engine.held.items) row same new text now → Keeps rules header (accepted ++ row ∷ []) new
+pub keeps_next : (rules : Rules) (header : HeaderView) (accepted : List RowView) (row : RowView) (engine same new : Engine) (text now : List ℕ) → (keeps : KeepsRows rules header accepted engine) → IsNext accepted row → is_full_at engine.held.capacity engine.most engine.held.items row.ticks ≡ false
+    → IsLikeEngine engine same → IsStored rules header keeps.before (due_part engine.most row.ticks engine.held.items) (rest_part engine.most row.ticks engine.held.items) row same new text now → KeepsRows rules header (accepted ++ row ∷ []) new
 keeps_next rules header accepted row engine same new text now keeps next full like stored =
     let most = engine.most in
     let items = engine.held.items in
@@ -84,7 +84,7 @@ keeps_next rules header accepted row engine same new text now keeps next full li
       seen = subst N (sym (reverse-append accepted (row ∷ []))) (stored.seen (reverse accepted) (subst H (sym like.tracks) keeps.seen));
     }
 
-pub holds_by : (rules : Rules) (header : HeaderView) (accepted : List RowView) (row : RowView) (engine same new : Engine) (text now : List ℕ) (result : Result (Unit {0}) OnlineFault) → (keeps : Keeps rules header accepted engine) → IsNext accepted row → is_full_at engine.held.capacity engine.most engine.held.items row.ticks ≡ false
+pub holds_by : (rules : Rules) (header : HeaderView) (accepted : List RowView) (row : RowView) (engine same new : Engine) (text now : List ℕ) (result : Result (Unit {0}) OnlineFault) → (keeps : KeepsRows rules header accepted engine) → IsNext accepted row → is_full_at engine.held.capacity engine.most engine.held.items row.ticks ≡ false
     → IsLikeEngine engine same → StoresOf rules header keeps.before (due_part engine.most row.ticks engine.held.items) (rest_part engine.most row.ticks engine.held.items) row result same new text now
     → Holds rules header accepted keeps.before (due_part engine.most row.ticks engine.held.items) (rest_part engine.most row.ticks engine.held.items) row result new text now
 holds_by rules header accepted row engine same new text now (Ok done) keeps next full like stores =
@@ -97,7 +97,7 @@ holds_by rules header accepted row engine same new text now (Ok done) keeps next
     )
 holds_by rules header accepted row engine same new text now (Err fault) keeps next full like stores = stops rules header accepted row engine stores.0 stores.1 fault text now keeps next stores.2
 
-pub row_accepted : (rules : Rules) (header : HeaderView) (accepted : List RowView) (row : RowView) (engine same new : Engine) (text now : List ℕ) (result : Result (Unit {0}) OnlineFault) → (keeps : Keeps rules header accepted engine) → IsNext accepted row → is_full_at engine.held.capacity engine.most engine.held.items row.ticks ≡ false
+pub row_accepted : (rules : Rules) (header : HeaderView) (accepted : List RowView) (row : RowView) (engine same new : Engine) (text now : List ℕ) (result : Result (Unit {0}) OnlineFault) → (keeps : KeepsRows rules header accepted engine) → IsNext accepted row → is_full_at engine.held.capacity engine.most engine.held.items row.ticks ≡ false
     → None ≡ option_map (λ (reading : RowReading). reading.col) (find (λ (reading : RowReading). lacks_step_at (place_in reading.col engine.tracks.items) engine.tracks.items row.ticks) row.readings)
     → IsLikeEngine engine same → StoresOf rules header keeps.before (due_part engine.most row.ticks engine.held.items) (rest_part engine.most row.ticks engine.held.items) row result same new text now
     → Accepts rules header accepted row result engine keeps new text now

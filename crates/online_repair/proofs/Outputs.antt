@@ -8,7 +8,7 @@ use Rattle.series_rows.specs.Row.{RowView}
 use Rattle.series_rows.specs.Texts.{header_text}
 use Rattle.series_rows.specs.declared.cell.RowReading.{RowReading}
 use Rattle.online_repair.specs.Accepted.{Accepted, accept, greatest_window, held, refusal, unless_refused}
-use Rattle.online_repair.specs.Keeping.{Keeps}
+use Rattle.online_repair.specs.Keeping.{KeepsRows}
 use Rattle.online_repair.specs.Output.{leaving, output_of, texts, too_large}
 use Rattle.online_repair.specs.Shown.{AreWaiting}
 use Rattle.online_repair.specs.Storing.{onto}
@@ -51,14 +51,14 @@ leaving_waiting rules header number before (row ∷ rows) waiting =
     ap (λ (b : Bool). cond b (option_or (option_map (λ (r : RowReading). LeavesRange number r.col) (too_large rules header before row rows)) others) others) waiting.0
     ∙ leaving_waiting rules header (suc number) (row ∷ before) rows waiting.1
 
-pub none_leaves : (rules : Rules) (header : HeaderView) (accepted : List RowView) (engine : Engine) → Keeps rules header accepted engine → leaving rules header false 1 [] accepted ≡ None
+pub none_leaves : (rules : Rules) (header : HeaderView) (accepted : List RowView) (engine : Engine) → KeepsRows rules header accepted engine → leaving rules header false 1 [] accepted ≡ None
 none_leaves rules header accepted engine keeps =
     ap (leaving rules header false 1 []) keeps.joined
     ∙ leaving_ready rules header 1 [] (reverse keeps.before) engine.held.items keeps.shown.ready keeps.shown.small
     ∙ leaving_waiting rules header (1 + length (reverse keeps.before)) (onto (reverse keeps.before) []) engine.held.items keeps.shown.waiting
 
 -- what the engine keeps is the output of the definition, while no row is refused
-pub output_kept : (rules : Rules) (header : HeaderView) (accepted : List RowView) (engine : Engine) → Keeps rules header accepted engine
+pub output_kept : (rules : Rules) (header : HeaderView) (accepted : List RowView) (engine : Engine) → KeepsRows rules header accepted engine
     → output_of rules header false (all_of accepted) ≡ record { text = header_text rules header ++ texts rules header false [] accepted; held = engine.held.items; fault = None }
 output_kept rules header accepted engine keeps =
     let text = header_text rules header ++ texts rules header false [] accepted in

@@ -12,7 +12,7 @@ use Rattle.series_rows.specs.Texts.{row_text_with}
 use Rattle.series_rows.specs.declared.cell.RowReading.{RowReading}
 use Rattle.online_repair.specs.Accepted.{greatest_window, is_ready}
 use Rattle.online_repair.specs.Engines.{IsStopped, IsTooLarge, IsWritten, WritesRows, due_part, rest_part}
-use Rattle.online_repair.specs.Keeping.{IsNext, Keeps, Stops}
+use Rattle.online_repair.specs.Keeping.{IsNext, KeepsRows, Stops}
 use Rattle.online_repair.specs.Output.{is_small, leaving, texts, too_large}
 use Rattle.online_repair.specs.Rows.{repaired, repaired_row, rule_in}
 use Rattle.online_repair.specs.Shown.{AreReady, AreShown, AreSmallRows}
@@ -212,7 +212,7 @@ stops_at rules header accepted before items row fault text now joined shown past
           );
     }
 
-pub stops : (rules : Rules) (header : HeaderView) (accepted : List RowView) (row : RowView) (engine old new : Engine) (fault : OnlineFault) (text now : List ℕ) → (keeps : Keeps rules header accepted engine) → IsNext accepted row
+pub stops : (rules : Rules) (header : HeaderView) (accepted : List RowView) (row : RowView) (engine old new : Engine) (fault : OnlineFault) (text now : List ℕ) → (keeps : KeepsRows rules header accepted engine) → IsNext accepted row
     → WritesRows rules header keeps.before (due_part engine.most row.ticks engine.held.items) (rest_part engine.most row.ticks engine.held.items) (Err fault) old new text now → Stops rules header accepted row fault text now
 stops rules header accepted row engine old new fault text now keeps next writes =
     let items = engine.held.items in

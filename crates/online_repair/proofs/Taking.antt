@@ -14,7 +14,7 @@ use Rattle.series_csv.specs.declared.event.Event.TheVariants.{Header, Row}
 use Rattle.series_csv.proofs.OneRead.{same_read}
 use Rattle.online_repair.specs.Accepted.{Accepted, accept, refusal, unless_refused}
 use Rattle.online_repair.specs.Feeds.{Appends, AppendsPart}
-use Rattle.online_repair.specs.Keeping.{Accepts, AcceptsBy, Holds, IsNext, Keeps, Stops}
+use Rattle.online_repair.specs.Keeping.{Accepts, AcceptsBy, Holds, IsNext, KeepsRows, Stops}
 use Rattle.online_repair.specs.Output.{Output, Reads, leaving, output, output_of, output_with, texts}
 use Rattle.online_repair.specs.StandsFor.{EngineKeeps}
 use Rattle.online_repair.specs.Storing.{rows_text}
@@ -48,10 +48,10 @@ pub is_nothing : (rules : Rules) (read : Read) (header : HeaderView) (engine : O
 is_nothing rules read header engine may =
     same_read read nothing (record { headers = may.is_new; rows = header_none rules read.header read.rows engine may.is_new may.keeps; faults = may.not_refused })
 
-begun_nothing : (rules : Rules) (header : HeaderView) (engine : Engine) (old new : List ℕ) → Keeps rules header [] engine → new ≡ old ++ header_text rules header → TakesEvent rules nothing (Header header) (Ok tt) (Some engine) old new
+begun_nothing : (rules : Rules) (header : HeaderView) (engine : Engine) (old new : List ℕ) → KeepsRows rules header [] engine → new ≡ old ++ header_text rules header → TakesEvent rules nothing (Header header) (Ok tt) (Some engine) old new
 begun_nothing rules header engine old new keeps text = ((keeps, refl), record { added = header_text rules header; output_is = append-nil (header_text rules header); text_is = text })
 
-pub header_taken : (rules : Rules) (read : Read) (header : HeaderView) (engine : Option Engine) (begun : Engine) (old new : List ℕ) → MayTake rules read (Header header) engine → Keeps rules header [] begun → new ≡ old ++ header_text rules header → TakesEvent rules read (Header header) (Ok tt) (Some begun) old new
+pub header_taken : (rules : Rules) (read : Read) (header : HeaderView) (engine : Option Engine) (begun : Engine) (old new : List ℕ) → MayTake rules read (Header header) engine → KeepsRows rules header [] begun → new ≡ old ++ header_text rules header → TakesEvent rules read (Header header) (Ok tt) (Some begun) old new
 header_taken rules read header engine begun old new may keeps text =
     let T : Read → Type 0 = λ r. TakesEvent rules r (Header header) (Ok tt) (Some begun) old new in
     subst T (sym (is_nothing rules read header engine may)) (begun_nothing rules header begun old new keeps text)
@@ -98,7 +98,7 @@ Whole rules header ended rows last = output_of rules header ended (accept rules 
 abbrev pub so_far : Rules → HeaderView → List RowView → List ℕ
 so_far rules header rows = header_text rules header ++ texts rules header false [] rows
 
-pub row_refused : (rules : Rules) (header : HeaderView) (ended : Bool) (rows : List RowView) (row : RowView) (more : List RowView) (last : Option OnlineFault) (fault : OnlineFault) (engine : Engine) → Keeps rules header rows engine → accept rules header [] rows None ≡ all_of rows → refusal rules header rows row ≡ Some fault
+pub row_refused : (rules : Rules) (header : HeaderView) (ended : Bool) (rows : List RowView) (row : RowView) (more : List RowView) (last : Option OnlineFault) (fault : OnlineFault) (engine : Engine) → KeepsRows rules header rows engine → accept rules header [] rows None ≡ all_of rows → refusal rules header rows row ≡ Some fault
     → IsStopped rules header rows fault (Whole rules header ended ((rows ++ row ∷ []) ++ more) last)
 row_refused rules header ended rows row more last fault engine keeps none refused =
     let S : Accepted → Type 0 = λ a. IsStopped rules header rows fault (output_of rules header ended a) in
@@ -149,7 +149,7 @@ stopped_same rules header rows fault now old new none stopped text =
     let appends : Appends before now old new = record { added = []; output_is = stopped.text_is ∙ sym (kept_text rules header rows none) ∙ sym (append-nil before.text); text_is = text ∙ sym (append-nil old) } in
     (λ other. (stopped.fault_is, appends), λ memory. appends_part before now old new appends)
 
-row_refused_all : (rules : Rules) (header : HeaderView) (rows : List RowView) (row : RowView) (fault : OnlineFault) (engine : Engine) (old new : List ℕ) → Keeps rules header rows engine → accept rules header [] rows None ≡ all_of rows → refusal rules header rows row ≡ Some fault → new ≡ old
+row_refused_all : (rules : Rules) (header : HeaderView) (rows : List RowView) (row : RowView) (fault : OnlineFault) (engine : Engine) (old new : List ℕ) → KeepsRows rules header rows engine → accept rules header [] rows None ≡ all_of rows → refusal rules header rows row ≡ Some fault → new ≡ old
     → StopsAll rules (kept_read header rows) (kept_read header (rows ++ row ∷ [])) fault old new
 row_refused_all rules header rows row fault engine old new keeps none refused text = λ ended bytes longer reads goes.
     longer_is rules header (rows ++ row ∷ []) ended bytes longer (λ out. StopsBy fault (output rules false (kept_read header rows)) out old new) reads goes
@@ -206,7 +206,7 @@ row_holds rules header rows before due rest row (Ok done) new_engine old new non
 row_holds rules header rows before due rest row (Err fault) new_engine old new none accepts holds =
     row_stops_all rules header rows row fault old new none (accepted_next rules header rows row none accepts) holds
 
-row_by : (rules : Rules) (header : HeaderView) (rows before due rest : List RowView) (row : RowView) (result : Result (Unit {0}) OnlineFault) (engine new_engine : Engine) (old new : List ℕ) (o : Option OnlineFault) → Keeps rules header rows engine → accept rules header [] rows None ≡ all_of rows → refusal rules header rows row ≡ o
+row_by : (rules : Rules) (header : HeaderView) (rows before due rest : List RowView) (row : RowView) (result : Result (Unit {0}) OnlineFault) (engine new_engine : Engine) (old new : List ℕ) (o : Option OnlineFault) → KeepsRows rules header rows engine → accept rules header [] rows None ≡ all_of rows → refusal rules header rows row ≡ o
     → AcceptsBy o rules header rows before due rest row result new_engine old new → TakesEvent rules (kept_read header rows) (Row row) result (Some new_engine) old new
 row_by rules header rows before due rest row result engine new_engine old new (Some fault) keeps none refused accepts =
     let T : Result (Unit {0}) OnlineFault → Type 0 = λ r. TakesEvent rules (kept_read header rows) (Row row) r (Some new_engine) old new in
@@ -217,7 +217,7 @@ row_by rules header rows before due rest row result engine new_engine old new No
 -- by the engine's contract
 abbrev pub AcceptsAll : Rules → RowView → Result (Unit {0}) OnlineFault → Engine → Engine → List ℕ → List ℕ → Type 0
 AcceptsAll rules row result engine new_engine old new =
-    (header : HeaderView) (accepted : List RowView) (keeps : Keeps rules header accepted engine) → IsNext accepted row → Accepts rules header accepted row result engine keeps new_engine old new
+    (header : HeaderView) (accepted : List RowView) (keeps : KeepsRows rules header accepted engine) → IsNext accepted row → Accepts rules header accepted row result engine keeps new_engine old new
 
 row_with : (rules : Rules) (header : Option HeaderView) (rows : List RowView) (fault : Option TableFault) (row : RowView) (result : Result (Unit {0}) OnlineFault) (engine new_engine : Engine) (old new : List ℕ) → fault ≡ None → EngineKeeps rules header rows (Some engine) → IsNext rows row → AcceptsAll rules row result engine new_engine old new
     → TakesEvent rules (read_as header rows fault) (Row row) result (Some new_engine) old new
@@ -234,7 +234,7 @@ row_taken rules read row result engine new_engine old new may accepts =
 -- what the engine needs to accept it
 pub record AcceptsRow (rules : Rules) (rows : List RowView) (engine : Engine) : Type 0 where
   pub header : HeaderView
-  pub keeps : Keeps rules header rows engine
+  pub keeps : KeepsRows rules header rows engine
 
 pub kept_header : (rules : Rules) (header : Option HeaderView) (rows : List RowView) (engine : Engine) → EngineKeeps rules header rows (Some engine) → AcceptsRow rules rows engine
 kept_header rules None rows engine keeps = absurd keeps

@@ -20,7 +20,7 @@ abbrev pub AreBefore : ℤ → List RowView → Type 0
 AreBefore now rows = AllByRecursion (λ (row : RowView). row.ticks <ℤ now) rows
 
 -- these rows were accepted, which stand in order
-pub record Keeps (rules : Rules) (header : HeaderView) (accepted : List RowView) (engine : Engine) : Type 0 where
+pub record KeepsRows (rules : Rules) (header : HeaderView) (accepted : List RowView) (engine : Engine) : Type 0 where
   pub before : List RowView
   pub joined : accepted ≡ reverse before ++ engine.held.items
   pub held_is : engine.held.items ≡ held engine.most accepted
@@ -44,7 +44,7 @@ pub record IsNext (accepted : List RowView) (row : RowView) : Type 0 where
 pub record CanAccept (rules : Rules) (row : RowView) (engine : Engine) : Type 0 where
   pub header : HeaderView
   pub accepted : List RowView
-  pub keeps : Keeps rules header accepted engine
+  pub keeps : KeepsRows rules header accepted engine
   pub next : IsNext accepted row
 
 -- The texts of the rows that are ready were those before, and these bytes now; so is the text that was written.
@@ -63,7 +63,7 @@ pub record Stops (rules : Rules) (header : HeaderView) (accepted : List RowView)
 -- It is accepted, and those that it makes ready were written; or the first of these of which a value is too large is
 -- refused, or memory ran out.
 abbrev pub Holds : Rules → HeaderView → List RowView → List RowView → List RowView → List RowView → RowView → Result Unit OnlineFault → Engine → List ℕ → List ℕ → Type 0
-Holds rules header accepted before due rest row (Ok done) new text now = Keeps rules header (accepted ++ row ∷ []) new × AddsText rules header accepted row (rows_text rules header before due rest) text now
+Holds rules header accepted before due rest row (Ok done) new text now = KeepsRows rules header (accepted ++ row ∷ []) new × AddsText rules header accepted row (rows_text rules header before due rest) text now
 Holds rules header accepted before due rest row (Err fault) new text now = Stops rules header accepted row fault text now
 
 -- the row is refused as `refusal` says, or not
@@ -71,7 +71,7 @@ abbrev pub AcceptsBy : Option OnlineFault → Rules → HeaderView → List RowV
 AcceptsBy (Some fault) rules header accepted before due rest row result new text now = (result ≡ Err fault) × (now ≡ text)
 AcceptsBy None rules header accepted before due rest row result new text now = Holds rules header accepted before due rest row result new text now
 
-abbrev pub Accepts : (rules : Rules) (header : HeaderView) (accepted : List RowView) (row : RowView) → Result Unit OnlineFault → (old : Engine) → Keeps rules header accepted old → Engine → List ℕ → List ℕ → Type 0
+abbrev pub Accepts : (rules : Rules) (header : HeaderView) (accepted : List RowView) (row : RowView) → Result Unit OnlineFault → (old : Engine) → KeepsRows rules header accepted old → Engine → List ℕ → List ℕ → Type 0
 Accepts rules header accepted row result old keeps new text now =
     AcceptsBy (refusal rules header accepted row) rules header accepted keeps.before (due_part old.most row.ticks old.held.items) (rest_part old.most row.ticks old.held.items) row result new text now
 
@@ -98,4 +98,4 @@ Ends rules header accepted (Err fault) engine text now = EndStops rules header a
 pub record HasKept (rules : Rules) (engine : Engine) : Type 0 where
   pub header : HeaderView
   pub accepted : List RowView
-  pub keeps : Keeps rules header accepted engine
+  pub keeps : KeepsRows rules header accepted engine

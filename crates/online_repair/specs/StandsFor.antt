@@ -1,4 +1,7 @@
--- For proofs: what the fields of a repair have to do with the bytes that it was fed. What it answers is in Feeds.
+-- To be believed: what contracts see of a repair (`OnlineView`), when it has refused (`HasRefused`) or ended (`HasEnded`), and
+-- at which stage it is where it stands for some bytes (`stage_of`, and the field `stage_is` of `StandsFor`).
+-- For proofs: all else, which is what the fields of a repair have to do with the bytes that it was fed. What it answers is in
+-- Feeds.
 use Rattle.std.specs.Prelude.{◌≡◌, ℕ, Bool, true, false, List, [], reverse, Option, Some, None}
 use Rattle.rule_file.specs.declared.rules.Rules.{Rules}
 use Rattle.series_rows.specs.Header.{HeaderView}
@@ -9,7 +12,7 @@ use Rattle.series_csv.specs.StandsFor as Reader
 use Rattle.series_rows.specs.declared.limits.Limits.TheVariants.{Endless}
 use Rattle.online_repair.specs.Accepted.{accept}
 use Rattle.online_repair.specs.Engines.{Stands}
-use Rattle.online_repair.specs.Keeping.{Keeps}
+use Rattle.online_repair.specs.Keeping.{KeepsRows}
 use Rattle.online_repair.specs.declared.engine.Engine.{Engine}
 use Rattle.online_repair.specs.declared.fault.OnlineFault.{OnlineFault}
 use Rattle.online_repair.specs.declared.online.Stage.{Stage}
@@ -33,12 +36,14 @@ abbrev pub stage_of : Bool → Stage
 stage_of true = Ended
 stage_of false = Open
 
+-- ---- the fields, and the bytes that the repair was fed
+
 -- While the file goes on, the engine keeps all rows, once the header was read; and none of them is refused.
 abbrev pub EngineKeeps : Rules → Option HeaderView → List RowView → Option Engine → Type 0
 EngineKeeps rules None rows None = rows ≡ []
 EngineKeeps rules None rows (Some engine) = ⊥
 EngineKeeps rules (Some header) rows None = ⊥
-EngineKeeps rules (Some header) rows (Some engine) = Keeps rules header rows engine × (accept rules header [] rows None ≡ record { rows = rows; fault = None })
+EngineKeeps rules (Some header) rows (Some engine) = KeepsRows rules header rows engine × (accept rules header [] rows None ≡ record { rows = rows; fault = None })
 
 -- when it has ended, all of them were written
 abbrev pub EngineEnded : Rules → Option HeaderView → List RowView → Option Engine → Type 0

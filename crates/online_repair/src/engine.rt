@@ -5,7 +5,7 @@ ghost use Rattle.series_rows.specs.Row.{RowView};
 ghost use Rattle.online_repair.specs.Accepted.{greatest_window};
 ghost use Rattle.online_repair.specs.Engines.{CanWrite, HasLeft, Leaves, Stands, WritesOldest, WritesRow, WritesRows, due_part, first_due, first_large, is_full_at, rest_part};
 ghost use Rattle.circular_buffer.specs.Buffer.{buffer};
-ghost use Rattle.online_repair.specs.Keeping.{Accepts, CanAccept, Ends, HasKept, IsNext, Keeps};
+ghost use Rattle.online_repair.specs.Keeping.{Accepts, CanAccept, Ends, HasKept, IsNext, KeepsRows};
 ghost use Rattle.online_repair.specs.Sensors.{IsWindowOf, place_in};
 ghost use Rattle.online_repair.specs.Storing.{CanStore, MayStore, Stores};
 
@@ -46,11 +46,11 @@ fn greatest_window(speeds: &[SpeedRule]) -> i64
 
 impl Engine {
     ghost use Rattle.std.specs.Prelude.{IfOk, []};
-    ghost use Rattle.online_repair.specs.Keeping.{Keeps};
+    ghost use Rattle.online_repair.specs.Keeping.{KeepsRows};
 
     /// No row was accepted.
     pub(crate) fn new(alloc: Global, rules: &Rules, header: &Header) -> Result<Engine, AllocError>
-        ensures { IfOk result (λ engine. Keeps rules.now header.now [] engine) }
+        ensures { IfOk result (λ engine. KeepsRows rules.now header.now [] engine) }
     {
         Ok(Engine {
             most: greatest_window(rules.speeds.as_slice()),
@@ -70,7 +70,7 @@ pub(crate) fn accept(
     out: &mut Vec<u8>,
 ) -> Result<(), OnlineFault>
     requires { CanAccept rules.now row engine.old }
-    ensures { (header : HeaderView) (accepted : List RowView) (keeps : Keeps rules.now header accepted engine.old) → IsNext accepted row
+    ensures { (header : HeaderView) (accepted : List RowView) (keeps : KeepsRows rules.now header accepted engine.old) → IsNext accepted row
         → Accepts rules.now header accepted row result engine.old keeps engine.new out.old.items out.new.items }
 {
     let number = engine.written + engine.held.len() as u32 + 1;
@@ -162,7 +162,7 @@ pub(crate) fn close(
     out: &mut Vec<u8>,
 ) -> Result<(), OnlineFault>
     requires { HasKept rules.now engine.old }
-    ensures { (header : HeaderView) (accepted : List RowView) → Keeps rules.now header accepted engine.old
+    ensures { (header : HeaderView) (accepted : List RowView) → KeepsRows rules.now header accepted engine.old
         → Ends rules.now header accepted result engine.new out.old.items out.new.items }
 {
     write_all(engine, rules, out)

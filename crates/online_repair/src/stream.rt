@@ -2,7 +2,7 @@
 ghost use Rattle.std.specs.Prelude.{◌≡◌, [], ◌++◌, IfErr, IfOk};
 ghost use Rattle.series_rows.specs.Texts.{header_text};
 ghost use Rattle.series_csv.specs.Read.{Read};
-ghost use Rattle.online_repair.specs.Keeping.{Keeps};
+ghost use Rattle.online_repair.specs.Keeping.{KeepsRows};
 ghost use Rattle.online_repair.specs.Streams.{CanTake, MayTake, TakesEvent};
 ghost use Rattle.online_repair.specs.declared.fault.OnlineFault.{OnlineFault};
 
@@ -151,7 +151,7 @@ fn begin(
     header: &Header,
     out: &mut Vec<u8>,
 ) -> Result<Engine, OnlineFault>
-    ensures begun { IfOk result (λ engine. Keeps rules.now header.now [] engine × (out.new.items ≡ out.old.items ++ header_text rules.now header.now)) }
+    ensures begun { IfOk result (λ engine. KeepsRows rules.now header.now [] engine × (out.new.items ≡ out.old.items ++ header_text rules.now header.now)) }
     ensures memory { IfErr result (λ fault. (fault ≡ OnlineFault.Memory) × (out.new.items ≡ out.old.items)) }
 {
     let engine = Engine::new(alloc, rules, header)?;
