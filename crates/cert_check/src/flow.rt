@@ -1,5 +1,5 @@
 //! What the lines of a flow add up to.
-ghost use Rattle.std.specs.Prelude.{◌≡◌, ◌≢◌, ◌+◌, ◌*◌, ◌^◌, ◌<◌, ◌≤◌, ℤ, pos, neg_ℤ, ◌+ℤ◌, ◌*ℤ◌, ◌-ℤ◌, List, [], map, length, not, nat_lt, get_or, replicate, slice_set, unsigned_abs, Option, Some, None, option_map, IfOk, IfErr};
+ghost use Rattle.std.specs.Prelude.{◌≡◌, ◌≢◌, ◌+◌, ◌*◌, ◌^◌, ◌<◌, ◌≤◌, ℤ, pos, neg_ℤ, ◌+ℤ◌, ◌*ℤ◌, ◌-ℤ◌, List, [], map, length, not, nat_lt, get_or, replicate, slice_get, slice_set, unsigned_abs, Option, Some, None, option_map, IfOk, IfErr};
 ghost use Rattle.std.specs.List.{AllByRecursion};
 ghost use Rattle.words.specs.Lists.{inner_product};
 ghost use Rattle.screen_model.specs.declared.bound.FlowItem.{FlowItem};
@@ -14,7 +14,7 @@ ghost use Rattle.cert_check.specs.Tally.{AreWithin, IsTally, added_at, added_by}
 
 use crate::fault::CertFault;
 use crate::sums::{difference, opposite, product, sum_of, wide};
-use bound_maker::{bound_of, names_are_distinct, problem_is_sound, weight_of};
+use bound_maker::{bound_of, names_are_distinct, problem_is_sound};
 use cert_format::LONGEST;
 use rule_file::Rules;
 use screen_model::{Bound, End, FlowItem, Place, sums_over_items};
@@ -152,9 +152,24 @@ fn is_pulled(pull: i128, weight: u32) -> bool
     u128::from(weight) < pull.unsigned_abs()
 }
 
-/// The place of the first reading that is pulled by more than its weight.
-pub(crate) fn first_pulled(table: &Table, rules: &Rules, pulls: &[i128]) -> Option<Place>
-    requires { length pulls.now ≡ length (places table.now) }
+/// The number at a place of a list, counted from 0.
+fn number_at(numbers: &[u32], i: u32) -> u32
+    requires { i < length numbers.now }
+    ensures { slice_get numbers.now i ≡ Some result }
+{
+    numbers[i as usize]
+}
+
+/// The place of the first reading that is pulled by more than its weight. The list tells by how much each may be pulled: the
+/// weights of all readings.
+pub(crate) fn first_pulled(
+    table: &Table,
+    rules: &Rules,
+    allowed: &[u32],
+    pulls: &[i128],
+) -> Option<Place>
+    requires allowed { allowed.now ≡ weights rules.now table.now }
+    requires long { length pulls.now ≡ length (places table.now) }
     ensures first { result ≡ first_pulled pulls.now (weights rules.now table.now) (places table.now) }
     ensures within { result ≡ None → AreWithin (2 ^ 32) pulls.now }
 {
@@ -164,7 +179,7 @@ pub(crate) fn first_pulled(table: &Table, rules: &Rules, pulls: &[i128]) -> Opti
     let _count = table.len();
     let mut i = 0;
     for pull in pulls {
-        if is_pulled(*pull, weight_of(table, rules, i)) {
+        if is_pulled(*pull, number_at(allowed, i)) {
             return table.place(i);
         }
         i += 1;

@@ -1,5 +1,5 @@
 //! The claim of a repair.
-ghost use Rattle.std.specs.Prelude.{◌≡◌, ◌≢◌, ◌+◌, ◌^◌, ◌<◌, ◌≤◌, pos, ◌-ℤ◌, ◌≤ℤ◌, length, not, option_map, Some, None, IfOk, IfErr, MatchResult};
+ghost use Rattle.std.specs.Prelude.{◌≡◌, ◌≢◌, ◌+◌, ◌^◌, ◌<◌, ◌≤◌, pos, length, not, option_map, Some, None, IfOk, IfErr};
 ghost use Rattle.words.specs.Answers.{UnlessMemory};
 ghost use Rattle.screen_model.specs.declared.bound.FlowItem.{FlowItem};
 ghost use Rattle.screen_model.specs.Cost.{cost, paid};
@@ -17,7 +17,8 @@ use crate::accepted::Accepted;
 use crate::fault::CertFault;
 use crate::flow::{Tally, dual_value, first_pulled, tally_flow};
 use crate::sets::{first_outside, series_with};
-use bound_maker::{best_over_made, change_of, cost_of, first_broken, price_of};
+use crate::sums::sum_of;
+use bound_maker::{best_over_made, change_of, first_broken, paid_of, price_of, weights_of};
 use cert_format::SetList;
 use rule_file::Rules;
 use screen_model::{BoundList, FlowItem, FlowList, Series};
@@ -142,18 +143,9 @@ fn costs_of(table: &Table, rules: &Rules, bounds: &BoundList, series: &Series) -
 {
     // Over the bounds that are made a series costs and pays what it costs and pays over all.
     best_over_made(table, rules);
-    let cost = cost_of(table, rules, bounds, series);
     let change = change_of(table, rules, series);
-    (cost, part_of(cost, change))
-}
-
-/// A number that is not below 0, without another one that is not greater.
-fn part_of(whole: i128, part: i128) -> i128
-    requires least { pos 0 ≤ℤ part }
-    requires most { part ≤ℤ whole }
-    ensures { result ≡ whole -ℤ part }
-{
-    whole - part
+    let paid = paid_of(table, rules, bounds, series);
+    (sum_of(change, paid), paid)
 }
 
 /// The fault of a number that is not the true one.
@@ -211,11 +203,19 @@ fn check_series(
 }
 
 /// Looks at the flow as a whole: how it pulls at the readings, and its dual value.
-fn check_flow(table: &Table, rules: &Rules, claim: &Claim, tally: &Tally) -> Result<(), CertFault>
+fn check_flow(
+    alloc: Global,
+    table: &Table,
+    rules: &Rules,
+    claim: &Claim,
+    tally: &Tally,
+) -> Result<(), CertFault>
     requires { IsTally rules.now table.now claim.now.flow tally.now }
-    ensures { MatchResult result (λ _. first_fault (flow_faults rules.now table.now claim.now) ≡ None) (λ fault. first_fault (flow_faults rules.now table.now claim.now) ≡ Some fault) }
+    ensures passed { IfOk result (λ _. first_fault (flow_faults rules.now table.now claim.now) ≡ None) }
+    ensures refused { IfErr result (λ fault. fault ≢ Memory → first_fault (flow_faults rules.now table.now claim.now) ≡ Some fault) }
 {
-    if let Some(place) = first_pulled(table, rules, tally.pulls.as_slice()) {
+    let weights = weights_of(alloc, table, rules)?;
+    if let Some(place) = first_pulled(table, rules, &weights, tally.pulls.as_slice()) {
         return Err(CertFault::PullTooGreat { place });
     }
     match value_differs(dual_value(table, tally), claim.total) {
@@ -250,7 +250,7 @@ fn check_numbers(
 {
     match series_with(alloc, table, claim.sets.as_slice()) {
         Ok(series) => match check_series(table, rules, bounds, claim, &series) {
-            Ok(paid) => match check_flow(table, rules, claim, tally) {
+            Ok(paid) => match check_flow(alloc, table, rules, claim, tally) {
                 Ok(()) => Ok((series, paid)),
                 Err(fault) => Err(fault),
             },

@@ -28,7 +28,7 @@ same-series c = refl
 
 pub returns-in-Ok-check_flow-clause-passed : goal.returns-in-Ok-check_flow-clause-passed
 returns-in-Ok-check_flow-clause-passed c =
-    fault_of_second (series_faults c.args.rules.now c.args.table.now c.args.claim.now) (flow_faults c.args.rules.now c.args.table.now c.args.claim.now) c.in-Ok-check_series.ensures.passed ∙ c.in-Ok-check_flow.ensures
+    fault_of_second (series_faults c.args.rules.now c.args.table.now c.args.claim.now) (flow_faults c.args.rules.now c.args.table.now c.args.claim.now) c.in-Ok-check_series.ensures.passed ∙ c.in-Ok-check_flow.ensures.passed
 
 pub returns-in-Ok-check_flow-clause-numbers : goal.returns-in-Ok-check_flow-clause-numbers
 returns-in-Ok-check_flow-clause-numbers c =
@@ -40,7 +40,7 @@ returns-in-Ok-check_flow-clause-numbers c =
 
 pub returns-in-Err-check_flow-clause-refused : goal.returns-in-Err-check_flow-clause-refused
 returns-in-Err-check_flow-clause-refused c =
-    λ _. fault_of_second (series_faults c.args.rules.now c.args.table.now c.args.claim.now) (flow_faults c.args.rules.now c.args.table.now c.args.claim.now) c.in-Ok-check_series.ensures.passed ∙ c.in-Err-check_flow.ensures
+    λ other. fault_of_second (series_faults c.args.rules.now c.args.table.now c.args.claim.now) (flow_faults c.args.rules.now c.args.table.now c.args.claim.now) c.in-Ok-check_series.ensures.passed ∙ c.in-Err-check_flow.ensures.refused other
 
 pub returns-in-Err-check_series-clause-refused : goal.returns-in-Err-check_series-clause-refused
 returns-in-Err-check_series-clause-refused c =
