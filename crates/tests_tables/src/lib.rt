@@ -1,9 +1,7 @@
-//! The tests of tables of readings: records, rows, whole files and what is written of them.
+//! The tests of the parts of tables: records, headers and rows.
 #![tactic(auto)]
 
 #[cfg(test)]
 mod record_cut_tests;
-#[cfg(test)]
-mod series_csv_tests;
 #[cfg(test)]
 mod series_rows_tests;

@@ -1,8 +1,7 @@
-//! Files that are read, whole and in pieces, the first reason to refuse one, and texts.
-ghost use Rattle.series_csv.specs.StandsFor.{HasEnded};
+//! Files that are read whole, the first reason to refuse one, and texts.
 
 use fix_point::NumFault;
-use record_cut::{CutFault, Fields};
+use record_cut::CutFault;
 use rule_file::{Rules, read_rules};
 use screen_model::{Place, Series};
 use sequence::Sequence;
@@ -10,16 +9,14 @@ use series_csv::TableCause::{
     Cut, NameTwice, NoHeader, NoSuchSensor, Time, TimeNotRising, TooManyColumns, TooManyReadings,
     TooManyRows, Value, Width,
 };
-use series_csv::{
-    Event, Header, Limits, Row, RowReader, Table, TableCause, TableFault, read_table, table_text,
-};
+use series_csv::{Table, TableCause, TableFault, read_table, table_text};
 use std::alloc::Global;
 use std::process::Abort;
 use std::test::Fail;
 use time_text::TimeFault;
 
 /// One speed rule of the sensor `x`; times are seconds.
-const BASE: &str = "[format]
+pub(crate) const BASE: &str = "[format]
 decimals = 0
 [[speed]]
 sensor = \"x\"
@@ -30,7 +27,7 @@ window = 10
 ";
 
 /// A rule between two sensors, and a time column with a name.
-const TWO: &str = "[format]
+pub(crate) const TWO: &str = "[format]
 decimals = 1
 time = \"at\"
 form = \"ms\"
@@ -44,7 +41,7 @@ max = 5
 ";
 
 /// Three sensors.
-const THREE: &str = "[format]
+pub(crate) const THREE: &str = "[format]
 decimals = 0
 [[range]]
 sensor = \"a\"
@@ -105,7 +102,7 @@ max = 9000
 ";
 
 /// The file is read as a table, and the text of that table with its own series is this.
-fn accepted(
+pub(crate) fn accepted(
     rt: &impl Abort,
     alloc: Global,
     rules: &Rules,
@@ -133,7 +130,10 @@ const OF_ONE_SENSOR: [Written; 7] = [
         "time,x\n0,10\n1,11\n2,20\n3,13\n",
         "time,x\n0,10\n1,11\n2,20\n3,13\n",
     ),
-    ("time,x\n0,10\n1,11", "time,x\n0,10\n1,11\n"),
+    (
+        "time,x\n0,10\n1,11\n2,20\n3,13",
+        "time,x\n0,10\n1,11\n2,20\n3,13\n",
+    ),
     (
         "\n\ntime,x\r\n\n0,1e1\r\n\r\n1,+011.0\n",
         "time,x\n0,10\n1,11\n",
@@ -179,7 +179,7 @@ fn files_are_read_and_written_again(rt: HostRuntime) -> Result<(), Fail> {
 }
 
 /// The file is refused as a table for this, at this row and column.
-fn refused(
+pub(crate) fn refused(
     rt: &impl Abort,
     alloc: Global,
     rules: &Rules,
@@ -239,10 +239,12 @@ const FIRST_OF_ROWS: [Refusal; 10] = [
     ("time,y\n0,a\n", NoSuchSensor { rule: 1 }, 0, 0),
 ];
 
-/// Of the header the time column counts before the sensors, and the first sensor of a rule before the second; of a row the
-/// time before a reading to the left of it, and of two readings the left one.
-const FIRST_OF_COLUMNS: [Refusal; 6] = [
+/// Of the header the time column counts before the sensors, also where it is twice there further to the right, and the
+/// first sensor of a rule before the second; of a row the time before a reading to the left of it, and of two readings the
+/// left one.
+const FIRST_OF_COLUMNS: [Refusal; 7] = [
     ("at;in;at\n", NameTwice, 0, 3),
+    ("at;in;in;out;at\n", NameTwice, 0, 5),
     ("time;in;in;out\n", NoSuchSensor { rule: 0 }, 0, 0),
     ("at;in;in\n", NameTwice, 0, 3),
     ("at;out;out\n", NoSuchSensor { rule: 1 }, 0, 0),
@@ -298,7 +300,7 @@ fn long(alloc: Global, size: u32) -> Result<Vec<u8>, Fail> {
 }
 
 /// A file of a header and so many rows, each of its number as time and then these bytes.
-fn tall(alloc: Global, header: &[u8], rows: u32, rest: &[u8]) -> Result<Vec<u8>, Fail> {
+pub(crate) fn tall(alloc: Global, header: &[u8], rows: u32, rest: &[u8]) -> Result<Vec<u8>, Fail> {
     let mut text = Vec::from_slice(alloc, header)?;
     for row in 0..rows {
         text.extend_from_slice(format!(in alloc; "{row}")?.as_bytes())?;
@@ -322,6 +324,10 @@ fn columns_and_records_have_limits(rt: HostRuntime) -> Result<(), Fail> {
     // Before the sensor that is there twice.
     let many = joined(alloc, b"x,x,", wide(alloc, 255)?.as_slice())?;
     refused(&rt, alloc, &base, many.as_slice(), TooManyColumns, 0, 0);
+    // And before a sensor that is not there.
+    let three = read_rules(alloc, THREE.as_bytes())?;
+    let many = wide(alloc, 255)?;
+    refused(&rt, alloc, &three, many.as_slice(), TooManyColumns, 0, 0);
     // A row with its line feed has five bytes beside its note.
     let most = long(alloc, 65_531)?;
     accepted(&rt, alloc, &base, most.as_slice(), most.as_slice())?;
@@ -348,10 +354,14 @@ const TOO_MANY_ROWS: [LastRecord; 3] = [
     ("200000,\"", Cut(CutFault::OpenQuote), 0),
 ];
 
+/// And before one reading too many.
+const TOO_MANY_OF_BOTH: [LastRecord; 1] = [("200000,1,2,3\n", TooManyRows, 0)];
+
 /// One reading too many counts after the width, the time and a reading of its row.
-const TOO_MANY_READINGS: [LastRecord; 4] = [
+const TOO_MANY_READINGS: [LastRecord; 5] = [
     ("133333,1,2,3\n", TooManyReadings, 0),
     ("133333,1,2,3,\n", Width, 0),
+    ("noon,1,2,3\n", Time(TimeFault::NotTime), 1),
     ("133332,1,2,3\n", TimeNotRising, 1),
     ("133333,1,2,x\n", Value(NumFault::NotNumber), 4),
 ];
@@ -401,240 +411,19 @@ fn rows_and_readings_have_limits(rt: HostRuntime) -> Result<(), Fail> {
     )
 }
 
-/// Adds a line for the header or the row.
-fn show(alloc: Global, seen: &mut Vec<u8>, event: &Event) -> Result<(), Fail> {
-    match event {
-        Event::Header(header) => show_header(alloc, seen, header),
-        Event::Row(row) => show_row(alloc, seen, row),
-    }
-}
-
-/// Adds a line for the header: its time column and its fields in brackets.
-fn show_header(alloc: Global, seen: &mut Vec<u8>, header: &Header) -> Result<(), Fail> {
-    seen.extend_from_slice(format!(in alloc; "{}", header.time_col())?.as_bytes())?;
-    show_fields(seen, header.fields())
-}
-
-/// Adds a line for the row: its time, its readings, and its fields in brackets.
-fn show_row(alloc: Global, seen: &mut Vec<u8>, row: &Row) -> Result<(), Fail> {
-    let first = format!(in alloc; "{} {:?}", row.ticks(), row.readings())?;
-    seen.extend_from_slice(first.as_bytes())?;
-    show_fields(seen, row.fields())
-}
-
-/// Adds the fields in brackets, and a line feed.
-fn show_fields(seen: &mut Vec<u8>, fields: &Fields) -> Result<(), Fail> {
-    for i in 0..fields.width() {
-        seen.extend_from_slice(b"[")?;
-        seen.extend_from_slice(fields.field(i).unwrap_or(b"?"))?;
-        seen.extend_from_slice(b"]")?;
-    }
-    seen.push(b'\n')?;
-    Ok(())
-}
-
-/// Feeds the bytes one at a time and tells the end; what came out, and the refusal.
-fn by_bytes(
-    rt: &impl Abort,
-    alloc: Global,
-    rules: &Rules,
-    bytes: &[u8],
-) -> Result<(Vec<u8>, Option<TableFault>), Fail> {
-    let mut seen = Vec::new(alloc);
-    let mut reader = RowReader::new(alloc, rules, Limits::Endless);
-    for byte in bytes {
-        match reader.feed(*byte) {
-            Ok(None) => {}
-            Ok(Some(event)) => show(alloc, &mut seen, &event)?,
-            Err(fault) => {
-                assert!(rt; reader.feed(b'1').err() == Some(fault));
-                assert!(rt; reader.feed_slice(b"1").answer.err() == Some(fault));
-                assert!(rt; reader.finish().err() == Some(fault));
-                return Ok((seen, Some(fault)));
-            }
-        }
-    }
-    let fault = ended(alloc, &mut reader, &mut seen)?;
-    Ok((seen, fault))
-}
-
-/// Tells the end of the file.
-fn ended(
-    alloc: Global,
-    reader: &mut RowReader,
-    seen: &mut Vec<u8>,
-) -> Result<Option<TableFault>, Fail>
-    requires { ¬ HasEnded reader.old }
-{
-    match reader.finish() {
-        Ok(None) => Ok(None),
-        Ok(Some(event)) => {
-            show(alloc, seen, &event)?;
-            Ok(None)
-        }
-        Err(fault) => Ok(Some(fault)),
-    }
-}
-
-/// Feeds a slice, record by record.
-fn feed_slice(
-    alloc: Global,
-    reader: &mut RowReader,
-    seen: &mut Vec<u8>,
-    piece: &[u8],
-) -> Result<Option<TableFault>, Fail>
-    requires { ¬ HasEnded reader.old }
-    ensures { ¬ HasEnded reader.new }
-{
-    let mut rest = piece;
-    for _ in 0..=piece.len() {
-        let taken = reader.feed_slice(rest);
-        rest = &rest[taken.count..];
-        match taken.answer {
-            Ok(None) => return Ok(None),
-            Ok(Some(event)) => show(alloc, seen, &event)?,
-            Err(fault) => return Ok(Some(fault)),
-        }
-    }
-    Ok(None)
-}
-
-/// Feeds two slices and tells the end; what came out, and the refusal.
-fn by_slices(
-    alloc: Global,
-    rules: &Rules,
-    first: &[u8],
-    second: &[u8],
-) -> Result<(Vec<u8>, Option<TableFault>), Fail> {
-    let mut seen = Vec::new(alloc);
-    let mut reader = RowReader::new(alloc, rules, Limits::Endless);
-    if let Some(fault) = feed_slice(alloc, &mut reader, &mut seen, first)? {
-        return Ok((seen, Some(fault)));
-    }
-    if let Some(fault) = feed_slice(alloc, &mut reader, &mut seen, second)? {
-        return Ok((seen, Some(fault)));
-    }
-    let fault = ended(alloc, &mut reader, &mut seen)?;
-    Ok((seen, fault))
-}
-
-/// Reads the file whole; the same lines, where it is not refused, and the refusal.
-fn by_table(
-    alloc: Global,
-    rules: &Rules,
-    bytes: &[u8],
-) -> Result<(Vec<u8>, Option<TableFault>), Fail> {
-    let mut seen = Vec::new(alloc);
-    match read_table(alloc, rules, bytes) {
-        Ok(table) => {
-            show_header(alloc, &mut seen, table.header())?;
-            for row in table.all_rows() {
-                show_row(alloc, &mut seen, row)?;
-            }
-            Ok((seen, None))
-        }
-        Err(fault) => Ok((seen, Some(fault))),
-    }
-}
-
-/// Whole, one byte at a time, and by slices cut at each place, the file gives the same lines and the same refusal.
-fn cut_anywhere(rt: &impl Abort, alloc: Global, rules: &Rules, bytes: &[u8]) -> Result<(), Fail> {
-    let (seen, fault) = by_bytes(rt, alloc, rules, bytes)?;
-    let (lines, refusal) = by_table(alloc, rules, bytes)?;
-    assert_eq!(rt; fault, refusal);
-    assert!(rt; refusal.is_some() || lines.as_slice() == seen.as_slice());
-    for at in 0..=bytes.len() {
-        let (first, second) = bytes.split_at(at);
-        let (other, found) = by_slices(alloc, rules, first, second)?;
-        assert_eq!(rt; seen.as_slice(), other.as_slice());
-        assert_eq!(rt; fault, found);
-    }
-    Ok(())
-}
-
-const CUT_OF_ONE_SENSOR: [&str; 5] = [
-    "",
-    "\u{feff}time,x,note\r\n\r\n0,10,\"a,\n\"\"b\"\r\n1,,\n2,3,",
-    "time,x\n0,10\n1,\"11",
-    "time,x\n0,10\n0,11\n1,2\n",
-    "time,y\n0,10\n",
-];
-
-const CUT_OF_TWO_SENSORS: [&str; 1] = ["in;at;out\n1;0;2\n1;1;x\n1;2;2\n"];
-
-fn cut_all(rt: &impl Abort, alloc: Global, rules: &str, files: &[&str]) -> Result<(), Fail> {
-    let rules = read_rules(alloc, rules.as_bytes())?;
-    for file in files {
-        cut_anywhere(rt, alloc, &rules, file.as_bytes())?;
-    }
-    Ok(())
-}
-
 #[test]
-fn pieces_do_not_matter(rt: HostRuntime) -> Result<(), Fail> {
-    cut_all(&rt, rt.alloc(), BASE, &CUT_OF_ONE_SENSOR)?;
-    cut_all(&rt, rt.alloc(), TWO, &CUT_OF_TWO_SENSORS)
-}
-
-/// A file, the lines of what comes of it, and the refusal.
-type Events = (&'static str, &'static str, Option<TableFault>);
-
-const FROM_BYTES: [Events; 3] = [
-    (
-        "time,x\n0,1\n2,",
-        "1[time][x]\n0 [RowReading { col: 2, value: 1 }][0][1]\n2000000000 [][2][]\n",
-        None,
-    ),
-    (
-        "time,x\n0,1\n0,2\n3,4\n",
-        "1[time][x]\n0 [RowReading { col: 2, value: 1 }][0][1]\n",
-        Some(TableFault {
-            cause: TimeNotRising,
-            row: 2,
-            col: 1,
-        }),
-    ),
-    (
-        "time,x\n0,1\n1,a",
-        "1[time][x]\n0 [RowReading { col: 2, value: 1 }][0][1]\n",
-        Some(TableFault {
-            cause: Value(NumFault::NotNumber),
-            row: 2,
-            col: 2,
-        }),
-    ),
-];
-
-#[test]
-fn headers_and_rows_come_in_order(rt: HostRuntime) -> Result<(), Fail> {
-    let base = read_rules(rt.alloc(), BASE.as_bytes())?;
-    for case in &FROM_BYTES {
-        let (file, lines, refusal) = *case;
-        let (seen, fault) = by_bytes(&rt, rt.alloc(), &base, file.as_bytes())?;
-        assert_eq!(rt; seen.as_slice(), lines.as_bytes());
-        assert_eq!(rt; fault, refusal);
-    }
-    Ok(())
-}
-
-#[test]
-fn a_stream_may_be_longer_than_a_table(rt: HostRuntime) -> Result<(), Fail> {
+fn rows_count_before_readings(rt: HostRuntime) -> Result<(), Fail> {
     let alloc = rt.alloc();
-    let three = read_rules(alloc, THREE.as_bytes())?;
-    let rows = tall(alloc, b"t,a,b,c\n", 200_001, b",1,2,3\n")?;
-    let (seen, fault) = by_slices(alloc, &three, rows.as_slice(), b"")?;
-    assert_eq!(rt; fault, None);
-    assert!(rt; seen.as_slice().ends_with(b"[200000][1][2][3]\n"));
-    refused(
+    let rows = tall(alloc, b"t,a,b,c\n", 200_000, b",1,,3\n")?;
+    check_last(
         &rt,
         alloc,
-        &three,
+        THREE,
         rows.as_slice(),
-        TooManyReadings,
-        133_334,
-        0,
-    );
-    Ok(())
+        400_000,
+        200_001,
+        &TOO_MANY_OF_BOTH,
+    )
 }
 
 /// A file of an hour: a row each second, whose value is the number of the second.
@@ -692,52 +481,6 @@ fn a_table_is_written_with_other_values(rt: HostRuntime) -> Result<(), Fail> {
     let text = text_with_others(alloc, &two, &table)?;
     let wanted = b"note;out;at;in\n\"a;\"\"\";100000000000000.0;0;-100000000000000.0\n;;1;0.7\n";
     assert_eq!(rt; text.as_slice(), wanted.as_slice());
-    Ok(())
-}
-
-/// The rules of one sensor with these lines of the format.
-fn with_format(alloc: Global, lines: &str) -> Result<Rules, Fail> {
-    let text = format!(in alloc; "[format]\n{lines}[[range]]\nsensor = \"x\"\nmax = 9\n")?;
-    Ok(read_rules(alloc, text.as_bytes())?)
-}
-
-/// A file of one row with this separator, whose word in the rules is given, and with a time of this form.
-fn check_class(
-    rt: &impl Abort,
-    alloc: Global,
-    word: &str,
-    byte: &str,
-    form: &str,
-    time: &str,
-    extra: &str,
-) -> Result<(), Fail> {
-    let lines = format!(in alloc;
-        "decimals = 1\nseparator = \"{word}\"\nform = \"{form}\"\nextra = \"{extra}\"\n"
-    )?;
-    let rules = with_format(alloc, lines.as_str())?;
-    let text = format!(in alloc; "t{byte}x{byte}n\n{time}{byte}2.5{byte}\"\"\"\"\n")?;
-    accepted(rt, alloc, &rules, text.as_bytes(), text.as_bytes())?;
-    let marked = format!(in alloc; "\u{feff}t{byte}x{byte}n\r\n{time}{byte}{byte}note\r\n")?;
-    let plain = format!(in alloc; "t{byte}x{byte}n\n{time}{byte}{byte}note\n")?;
-    accepted(rt, alloc, &rules, marked.as_bytes(), plain.as_bytes())
-}
-
-#[test]
-fn every_class_of_file_is_read(rt: HostRuntime) -> Result<(), Fail> {
-    for (word, byte) in [(",", ","), (";", ";"), ("\\t", "\t"), ("|", "|")] {
-        for (form, time) in [
-            ("s", "1.5"),
-            ("ms", "1500"),
-            ("us", "1500000"),
-            ("ns", "1500000000"),
-            ("instant", "2024-05-01T00:00:00Z"),
-            ("civil", "2024-05-01 00:00:00"),
-        ] {
-            for extra in ["refuse", "round"] {
-                check_class(&rt, rt.alloc(), word, byte, form, time, extra)?;
-            }
-        }
-    }
     Ok(())
 }
 
