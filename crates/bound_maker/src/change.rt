@@ -2,7 +2,7 @@
 ghost use Rattle.std.specs.Prelude.{◌≡◌, ◌≤◌, ◌*◌, ◌^◌, ◌-ℤ◌, pos, length, drop, unsigned_abs};
 ghost use Rattle.std.specs.List.{flat_map};
 ghost use Rattle.screen_model.specs.Cost.{change, weighted_change};
-ghost use Rattle.screen_model.specs.declared.limits.TheConstants.{MOST_COLUMNS, MOST_ROWS};
+ghost use Rattle.screen_model.specs.declared.limits.TheConstants.{MOST_ROWS};
 ghost use Rattle.rule_file.specs.Numbers.{rules_in_order};
 ghost use Rattle.series_rows.specs.declared.cell.RowReading.{RowReading};
 ghost use Rattle.series_csv.specs.Readings.{values, values_in, values_of};

@@ -1,5 +1,5 @@
 -- The bounds of a cycle that forbids every series: their names, and the sum of their limits.
-use Rattle.std.proofs.Common.{◌≡◌, ℕ, zero, suc, ◌+◌, ◌*◌, ◌^◌, ◌<◌, ◌≤◌, ℤ, ◌+ℤ◌, List, [], ◌∷◌, ◌++◌, length, map, drop, get_or, Option, Some, None, IsSome, refl, sym, ap, ◌∙◌, subst, arith}
+use Rattle.std.proofs.Common.{◌≡◌, ℕ, zero, suc, ◌+◌, ◌*◌, ◌^◌, ◌<◌, ◌≤◌, ℤ, ◌+ℤ◌, List, [], ◌∷◌, length, map, drop, get_or, Option, Some, None, IsSome, refl, ap, ◌∙◌, subst, arith}
 use Rattle.std.specs.Prelude.{Contains, MatchOption, unsigned_abs}
 use Rattle.std.specs.List.{AllByRecursion}
 use Rattle.std.proofs.lemmas.Int.{ints}
@@ -12,7 +12,7 @@ use Rattle.screen_model.specs.declared.place.End.{End}
 use Rattle.screen_model.specs.declared.place.End.TheVariants.{At, Zero}
 use Rattle.screen_model.specs.declared.place.Place.{Place}
 use Rattle.screen_model.specs.Best.{IsBlocked}
-use Rattle.screen_model.specs.Names.{AreNamesIn, bounds_named, names_of}
+use Rattle.screen_model.specs.Names.{bounds_named, names_of}
 use Rattle.screen_model.specs.Obeys.{HasEnds, Priced}
 use Rattle.screen_model.specs.Series.{IsEnd}
 use Rattle.rule_file.specs.declared.rules.Rules.{Rules}

@@ -1,10 +1,10 @@
 -- Distinct elements that are all among others are no more than those.
-use Rattle.std.proofs.Common.{◌≡◌, ◌≢◌, ℕ, zero, suc, ◌+◌, ◌<◌, ◌≤◌, ◌⊎◌, inl, inr, List, [], ◌∷◌, ◌++◌, length, refl, sym, ap, ◌∙◌, subst, arith}
+use Rattle.std.proofs.Common.{◌≡◌, ◌≢◌, ◌≤◌, ◌⊎◌, inl, inr, List, [], ◌∷◌, ◌++◌, length, ap, subst, arith}
 use Rattle.std.specs.Prelude.{Contains}
 use Rattle.std.specs.List.{AllByRecursion}
 use Rattle.std.proofs.lemmas.List.{length-append}
 use Rattle.words.specs.Lists.{Distinct}
-use Rattle.words.proofs.Lists.{all_weaker, contains_cases, contains_first, contains_later, contains_none}
+use Rattle.words.proofs.Lists.{contains_cases, contains_first, contains_later, contains_none}
 
 -- a list without one of its elements
 pub record IsSplit {A : Type 0} (xs : List A) (x : A) : Type 0 where

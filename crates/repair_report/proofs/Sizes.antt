@@ -1,6 +1,6 @@
 -- What a series that obeys costs and pays is not too great.
-use Rattle.std.proofs.Common.{◌≡◌, ℕ, suc, ◌+◌, ◌*◌, ◌^◌, ◌≤◌, ℤ, pos, negsuc, neg_ℤ, ◌-ℤ◌, ◌≤ℤ◌, List, [], ◌∷◌, ◌++◌, length, map, refl, sym, ap, ◌∙◌, arith}
-use Rattle.std.specs.Prelude.{Contains, sum, unsigned_abs}
+use Rattle.std.proofs.Common.{◌≡◌, ℕ, ◌*◌, ◌^◌, ◌≤◌, ℤ, pos, negsuc, neg_ℤ, ◌-ℤ◌, ◌≤ℤ◌, List, [], ◌∷◌, ◌++◌, length, map, refl, arith}
+use Rattle.std.specs.Prelude.{unsigned_abs}
 use Rattle.std.specs.List.{AllByRecursion}
 use Rattle.std.proofs.lemmas.Int.{ints}
 use Rattle.std.proofs.lemmas.List.Sums.{sum_by-cons}
@@ -18,12 +18,10 @@ use Rattle.screen_model.specs.Series.{IsEnd, reading_at, value_at}
 use Rattle.rule_file.specs.declared.rules.Rules.{Rules}
 use Rattle.series_csv.specs.File.{TableView}
 use Rattle.series_csv.specs.Readings.{places, values}
-use Rattle.bound_maker.specs.Bounds.{all_bounds, made_bounds, price_of_number, priced, size_bounds}
-use Rattle.bound_maker.specs.Costs.{made_problem, problem_with, weights, whole_problem}
+use Rattle.bound_maker.specs.Bounds.{made_bounds, price_of_number, priced, size_bounds}
+use Rattle.bound_maker.specs.Costs.{problem_with, weights, whole_problem}
 use Rattle.bound_maker.specs.Laws.{BestOverMade}
 use Rattle.bound_maker.specs.Sound.{IsSound}
-use Rattle.repair_report.specs.declared.reading.Repaired.{Repaired}
-use Rattle.repair_report.specs.Readings.{weighted}
 use Rattle.repair_report.specs.Repairs.{repaired}
 use Rattle.repair_report.proofs.Tallying.{IsLight, change_small}
 use Rattle.repair_report.proofs.Zipped.{change_of_readings, repaired_few}

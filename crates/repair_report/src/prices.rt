@@ -14,7 +14,7 @@ ghost use Rattle.repair_report.specs.RepairLines.{rule_lines};
 
 use crate::lines::push_rule;
 use bound_maker::{
-    made_is_a_part, make, names_can_be_written, paid_of, price_of, problem_is_sound,
+    made_is_a_part, make, names_can_be_written, paid_for, price_of, problem_is_sound,
 };
 use rule_file::Rules;
 use screen_model::{Bound, BoundList, Series};
@@ -67,32 +67,29 @@ fn bounds_of(bounds: &[Bound], number: u32) -> &[Bound]
 }
 
 /// What a series pays for the bounds of a rule that has a price.
-fn paid_for(
-    alloc: Global,
+fn paid_of_rule(
     table: &Table,
     rules: &Rules,
     series: &Series,
     bounds: &BoundList,
     number: u32,
-) -> Result<i128, AllocError>
+) -> i128
     requires made { bounds.now ≡ made_bounds rules.now table.now }
     requires few { length bounds.now ≤ MOST_BOUNDS }
     requires price { price_of_number rules.now number ≢ 0 }
     requires obeys { Obeys (places table.now) series.now (whole_problem rules.now table.now).bounds }
-    ensures value { IfOk result (λ paid. paid ≡ pos (paid_for rules.now table.now series.now number)) }
-    ensures small { IfOk result (λ paid. unsigned_abs paid ≤ 10 ^ 30) }
+    ensures value { result ≡ pos (paid_for rules.now table.now series.now number) }
+    ensures small { unsigned_abs result ≤ 10 ^ 30 }
 {
     // The names of the bounds rise, and those that are made have all that bear a price; no limit and no price is too great.
     names_can_be_written(table, rules);
     made_is_a_part();
     problem_is_sound(table, rules);
-    let own = BoundList::from_slice(alloc, bounds_of(bounds.as_slice(), number))?;
-    Ok(paid_of(table, rules, &own, series))
+    paid_for(table, rules, bounds_of(bounds.as_slice(), number), series)
 }
 
 /// Adds the line of a rule that has a price.
 fn push_paid(
-    alloc: Global,
     text: &mut Vec<u8>,
     table: &Table,
     rules: &Rules,
@@ -106,7 +103,7 @@ fn push_paid(
     requires obeys { Obeys (places table.now) series.now (whole_problem rules.now table.now).bounds }
     ensures { OnOk result (text.new.items ≡ text.old.items ++ (rule_line rules.now.format.decimals number (pos (paid_for rules.now table.now series.now number)) ++ line_feed ∷ [])) }
 {
-    let paid = paid_for(alloc, table, rules, series, bounds, number)?;
+    let paid = paid_of_rule(table, rules, series, bounds, number);
     push_rule(text, rules.format.decimals, number, paid)
 }
 
@@ -131,12 +128,11 @@ pub(crate) fn push_rules(
     let Ok(bounds) = make(alloc, table, rules) else {
         return Err(AllocError);
     };
-    push_each(alloc, text, table, rules, series, &bounds, priced)
+    push_each(text, table, rules, series, &bounds, priced)
 }
 
 /// Adds the line of each of these rules, which have a price.
 fn push_each(
-    alloc: Global,
     text: &mut Vec<u8>,
     table: &Table,
     rules: &Rules,
@@ -151,7 +147,7 @@ fn push_each(
     ensures { OnOk result (text.new.items ≡ text.old.items ++ text_of_lines (rule_lines rules.now table.now series.now)) }
 {
     for number in priced {
-        push_paid(alloc, text, table, rules, series, bounds, *number)?;
+        push_paid(text, table, rules, series, bounds, *number)?;
     }
     Ok(())
 }

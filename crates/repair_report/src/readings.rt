@@ -12,7 +12,7 @@ ghost use Rattle.repair_report.specs.RepairLines.{change_lines};
 
 use crate::lines::push_change;
 use crate::reading::{Repaired, is_changed};
-use bound_maker::{names_can_be_written, problem_is_sound, weight_of};
+use bound_maker::{names_can_be_written, problem_is_sound};
 use rule_file::Rules;
 use screen_model::{Place, Series};
 use series_csv::Table;
@@ -29,13 +29,16 @@ fn place_at(table: &Table, rules: &Rules, i: u32) -> Place
 }
 
 /// Its weight, which is at most 1,000.
-fn weight_at(table: &Table, rules: &Rules, i: u32) -> u32
-    requires { i < length (values table.now) }
+fn weight_at(table: &Table, rules: &Rules, weighed: &[u32], i: u32) -> u32
+    requires weighed { weighed.now ≡ weights rules.now table.now }
+    requires within { i < length (values table.now) }
     ensures weight { slice_get (weights rules.now table.now) i ≡ Some result }
     ensures most { result ≤ 1000 }
 {
+    // There are as many places as readings, and as weights.
+    let _places = table.places();
     problem_is_sound(table, rules);
-    weight_of(table, rules, i)
+    weighed[i as usize]
 }
 
 /// The value with this number in a series, counted from 0.
@@ -60,8 +63,15 @@ fn light_reading(place: Place, weight: u32, from: i64, to: i64) -> Repaired
     }
 }
 
-/// The reading with this number, counted from 0, and what the series makes of it.
-pub(crate) fn repaired_at(table: &Table, rules: &Rules, series: &Series, i: u32) -> Repaired
+/// The reading with this number, counted from 0, and what the series makes of it. The list has the weights of all readings.
+pub(crate) fn repaired_at(
+    table: &Table,
+    rules: &Rules,
+    series: &Series,
+    weighed: &[u32],
+    i: u32,
+) -> Repaired
+    requires weighed { weighed.now ≡ weights rules.now table.now }
     requires within { i < length (values table.now) }
     requires whole { length series.now ≡ length (values table.now) }
     ensures reading { slice_get (repaired rules.now table.now series.now) i ≡ Some result }
@@ -69,7 +79,7 @@ pub(crate) fn repaired_at(table: &Table, rules: &Rules, series: &Series, i: u32)
     ensures column { result.place.col ≤ MOST_COLUMNS }
 {
     let place = place_at(table, rules, i);
-    let weight = weight_at(table, rules, i);
+    let weight = weight_at(table, rules, weighed, i);
     let from = value_at(table.series(), i);
     let to = value_at(series, i);
     light_reading(place, weight, from, to)
@@ -93,12 +103,14 @@ pub(crate) fn push_changes(
     table: &Table,
     rules: &Rules,
     series: &Series,
+    weighed: &[u32],
 ) -> Result<(), AllocError>
-    requires { length series.now ≡ length (values table.now) }
+    requires weighed { weighed.now ≡ weights rules.now table.now }
+    requires whole { length series.now ≡ length (values table.now) }
     ensures { OnOk result (text.new.items ≡ text.old.items ++ text_of_lines (change_lines rules.now table.now series.now)) }
 {
     for i in 0..table.len() {
-        let reading = repaired_at(table, rules, series, i);
+        let reading = repaired_at(table, rules, series, weighed, i);
         push_if_changed(text, rules.format.decimals, reading)?;
     }
     Ok(())

@@ -5,7 +5,7 @@ ghost use Rattle.screen_model.specs.Obeys.{Obeys};
 ghost use Rattle.cert_format.specs.Words.{text_of_lines};
 ghost use Rattle.series_csv.specs.Readings.{places, values};
 ghost use Rattle.bound_maker.specs.Bounds.{made_bounds};
-ghost use Rattle.bound_maker.specs.Costs.{whole_problem};
+ghost use Rattle.bound_maker.specs.Costs.{weights, whole_problem};
 ghost use Rattle.bound_maker.specs.declared.maker.TheConstants.{MOST_BOUNDS};
 ghost use Rattle.cert_check.specs.Laws.{IsTrueClaim, IsTrueRepair};
 ghost use Rattle.repair_report.specs.Lines.{value_line};
@@ -20,7 +20,7 @@ use crate::lines::push_value_line;
 use crate::prices::{priced_rules, push_rules};
 use crate::readings::push_changes;
 use crate::tally::{Tally, tallies_of};
-use bound_maker::{best_over_made, problem_is_sound};
+use bound_maker::{best_over_made, problem_is_sound, weights_of};
 use cert_check::Accepted;
 use cert_format::{Line, push_line};
 use rule_file::Rules;
@@ -84,12 +84,14 @@ fn push_lists(
     table: &Table,
     rules: &Rules,
     series: &Series,
+    weighed: &[u32],
     flow: &[FlowItem],
 ) -> Result<(), AllocError>
-    requires { length series.now ≡ length (values table.now) }
+    requires weighed { weighed.now ≡ weights rules.now table.now }
+    requires whole { length series.now ≡ length (values table.now) }
     ensures { OnOk result (text.new.items ≡ text.old.items ++ text_of_lines (change_lines rules.now table.now series.now ++ flow_lines flow.now)) }
 {
-    push_changes(text, table, rules, series)?;
+    push_changes(text, table, rules, series, weighed)?;
     push_flow(text, flow)
 }
 
@@ -100,9 +102,11 @@ fn push_after_columns(
     table: &Table,
     rules: &Rules,
     series: &Series,
+    weighed: &[u32],
     flow: &[FlowItem],
     priced: &[u32],
 ) -> Result<(), AllocError>
+    requires weighed { weighed.now ≡ weights rules.now table.now }
     requires priced { priced.now ≡ priced_rules rules.now }
     requires few { length (made_bounds rules.now table.now) ≤ MOST_BOUNDS }
     requires obeys { Obeys (places table.now) series.now (whole_problem rules.now table.now).bounds }
@@ -110,7 +114,7 @@ fn push_after_columns(
     ensures { OnOk result (text.new.items ≡ text.old.items ++ text_of_lines (rule_lines rules.now table.now series.now ++ (change_lines rules.now table.now series.now ++ flow_lines flow.now))) }
 {
     push_rules(alloc, text, table, rules, series, priced)?;
-    push_lists(text, table, rules, series, flow)
+    push_lists(text, table, rules, series, weighed, flow)
 }
 
 /// Adds what a series costs and pays, and the table of columns.
@@ -120,9 +124,11 @@ fn push_sums(
     table: &Table,
     rules: &Rules,
     series: &Series,
+    weighed: &[u32],
     costs: (i128, i128),
     priced: &[u32],
 ) -> Result<(), AllocError>
+    requires weighed { weighed.now ≡ weights rules.now table.now }
     requires few { length (made_bounds rules.now table.now) ≤ MOST_BOUNDS }
     requires obeys { Obeys (places table.now) series.now (whole_problem rules.now table.now).bounds }
     requires whole { length series.now ≡ length (values table.now) }
@@ -131,7 +137,7 @@ fn push_sums(
     requires priced { priced.now ≡ priced_rules rules.now }
     ensures { OnOk result (text.new.items ≡ text.old.items ++ text_of_lines (total_lines rules.now table.now series.now ++ column_lines rules.now table.now series.now)) }
 {
-    let tallies = tallies_of(alloc, table, rules, series)?;
+    let tallies = tallies_of(alloc, table, rules, series, weighed)?;
     sums_fit(table, rules, series, &tallies);
     push_totals(text, rules.format.decimals, costs, priced)?;
     push_columns(alloc, text, table, rules, series, &tallies)
@@ -153,9 +159,28 @@ fn push_repair(
 {
     // There are as many places as readings.
     let _places = table.places();
+    let weighed = weights_of(alloc, table, rules)?;
     let priced = priced_rules(alloc, rules)?;
-    push_sums(alloc, text, table, rules, series, costs, priced.as_slice())?;
-    push_after_columns(alloc, text, table, rules, series, flow, priced.as_slice())
+    push_sums(
+        alloc,
+        text,
+        table,
+        rules,
+        series,
+        &weighed,
+        costs,
+        priced.as_slice(),
+    )?;
+    push_after_columns(
+        alloc,
+        text,
+        table,
+        rules,
+        series,
+        &weighed,
+        flow,
+        priced.as_slice(),
+    )
 }
 
 /// Adds the report of what was accepted.

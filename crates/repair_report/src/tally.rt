@@ -2,6 +2,7 @@
 ghost use Rattle.std.specs.Prelude.{◌≡◌, ◌+◌, ◌*◌, ◌^◌, ◌<◌, ◌≤◌, [], length, take, IfOk};
 ghost use Rattle.screen_model.specs.declared.limits.TheConstants.{MOST_READINGS};
 ghost use Rattle.series_csv.specs.Readings.{values};
+ghost use Rattle.bound_maker.specs.Costs.{weights};
 ghost use Rattle.repair_report.specs.Readings.{weighted};
 ghost use Rattle.repair_report.specs.Repairs.{repaired};
 ghost use Rattle.repair_report.specs.Tallies.{AreTallies, with_reading};
@@ -54,31 +55,41 @@ pub(crate) fn no_tallies(alloc: Global) -> Result<Vec<Tally>, AllocError>
 }
 
 /// Counts the reading with this number in its column.
-fn count(tallies: &mut Vec<Tally>, table: &Table, rules: &Rules, series: &Series, i: u32)
+fn count(
+    tallies: &mut Vec<Tally>,
+    table: &Table,
+    rules: &Rules,
+    series: &Series,
+    weighed: &[u32],
+    i: u32,
+)
+    requires weighed { weighed.now ≡ weights rules.now table.now }
     requires few { length (values table.now) ≤ MOST_READINGS }
     requires within { i < length (values table.now) }
     requires whole { length series.now ≡ length (values table.now) }
     requires counted { AreTallies (take i (repaired rules.now table.now series.now)) tallies.old.items }
     ensures { AreTallies (take (i + 1) (repaired rules.now table.now series.now)) tallies.new.items }
 {
-    let reading = repaired_at(table, rules, series, i);
+    let reading = repaired_at(table, rules, series, weighed, i);
     let col = reading.place.col as usize;
     tallies[col] = with_reading(tallies[col], reading);
 }
 
-/// The tally of each column.
+/// The tally of each column. The list has the weights of all readings.
 pub(crate) fn tallies_of(
     alloc: Global,
     table: &Table,
     rules: &Rules,
     series: &Series,
+    weighed: &[u32],
 ) -> Result<Vec<Tally>, AllocError>
-    requires { length series.now ≡ length (values table.now) }
+    requires weighed { weighed.now ≡ weights rules.now table.now }
+    requires whole { length series.now ≡ length (values table.now) }
     ensures { IfOk result (λ tallies. AreTallies (repaired rules.now table.now series.now) tallies.items) }
 {
     let mut tallies = no_tallies(alloc)?;
     for i in 0..table.len() {
-        count(&mut tallies, table, rules, series, i);
+        count(&mut tallies, table, rules, series, weighed, i);
     }
     Ok(tallies)
 }

@@ -1,4 +1,4 @@
-use Rattle.std.proofs.Common.{ℕ, rules, ltb, leb, drop, length, sym}
+use Rattle.std.proofs.Common.{ℕ, rules, ltb, leb, drop, sym}
 use Rattle.std.proofs.lemmas.List.Sorted.{IsNonDecreasingBy-drop, IsPartitionPoint-from_clause, IsPartitionedBy-leb, IsPartitionedBy-ltb}
 use Rattle.screen_model.specs.declared.bound.Bound.{Bound}
 use Rattle.repair_report.proofs.Runs.{bounds_between}

@@ -1,4 +1,4 @@
-use Rattle.std.proofs.Common.{◌≡◌, ◌∷◌, [], ◌++◌, List, set, take, refl, sym, ap, ◌∙◌, subst, arith}
+use Rattle.std.proofs.Common.{List, set, take, refl, sym, ap, ◌∙◌, subst, arith}
 use Rattle.repair_report.specs.declared.reading.Repaired.{Repaired}
 use Rattle.repair_report.specs.declared.tally.Tally.{Tally}
 use Rattle.repair_report.specs.Repairs.{repaired}
