@@ -1,5 +1,5 @@
 -- For proofs: what the steps of the command `online` leave.
-use Rattle.std.specs.Prelude.{◌≡◌, ◌≢◌, ◌⊎◌, ℕ, ◌+◌, ◌≤◌, Bool, true, false, List, [], ◌++◌, length, take, Option, Some, None, Result, Ok, Err}
+use Rattle.std.specs.Prelude.{◌≡◌, ◌≢◌, ◌⊎◌, ℕ, ◌≤◌, Bool, true, false, List, [], ◌++◌, length, take, Option, Some, None, Result, Ok, Err}
 use Rattle.online_repair.specs.Feeds.{Answers}
 use Rattle.online_repair.specs.NotOnline.{not_online}
 use Rattle.online_repair.specs.Output.{IsOutput, Output}
