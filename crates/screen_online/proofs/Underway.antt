@@ -12,7 +12,7 @@ use Rattle.screen_io.specs.Faults.{Rose}
 use Rattle.screen_io.specs.Source.{Takes, IsAtEnd}
 use Rattle.screen_io.proofs.Steps.{Takes-more, Takes-nothing}
 use Rattle.screen_online.specs.Online.{AfterStart, HasText, IsBroken, IsRefused, IsTooMuch, IsWhole, ending_for, streamed}
-use Rattle.screen_online.specs.Steps.{Hands, HasWritten, IsBegun, IsCutOff, IsGiven, IsStarved, IsUnderWay, Repairs}
+use Rattle.screen_online.specs.Steps.{Hands, HasWritten, IsBegun, IsCutOff, IsGiven, IsStarved, Repairs}
 use Rattle.screen_online.specs.declared.stream.TheConstants.{MOST_BYTES, PIECE}
 use Rattle.screen_online.proofs.Written.{front_written, more_written, nothing_yet, part_written, piece_written}
 use Rattle.screen_steps.specs.Answer.{Answer, Whole, Begun, Unread}
@@ -92,6 +92,16 @@ ended_output : (rules : Rules) (came front rest : List ℕ) (out : Output) → [
 ended_output rules came front rest out e is =
     let I : List ℕ → Type 0 = λ bytes. IsOutput rules true (came ++ bytes) out in
     whole_output rules came out (subst I (nil_front front rest e) is)
+
+module _ {S K : Type 0} (left : S → Option (List ℕ)) (source_faults : S → ℕ) (held : K → Option (List ℕ)) (sink_faults : K → ℕ) where
+  -- The repair stands for the bytes that came, their text is written, and so many more may come.
+  pub record IsUnderWay (rules : Rules) (room : ℕ) (online : OnlineView) (source source_now : S) (sink sink_now : K) : Type 0 where
+    pub came : List ℕ
+    pub begun : IsBegun left source_faults held sink_faults rules came source source_now
+    pub room_is : length came + room ≡ MOST_BYTES
+    pub stands : StandsFor online rules false came
+    pub unfailed : Stays (source_faults source) (source_faults source_now)
+    pub written : HasWritten held sink_faults rules came sink sink_now
 
 module _ {S K : Type 0} (left : S → Option (List ℕ)) (source_faults : S → ℕ) (held : K → Option (List ℕ)) (sink_faults : K → ℕ) where
   -- ---- the beginning

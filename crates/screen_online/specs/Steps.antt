@@ -1,5 +1,5 @@
 -- For proofs: what the steps of the command `online` leave.
-use Rattle.std.specs.Prelude.{◌≡◌, ◌≢◌, ◌⊎◌, ℕ, ◌+◌, ◌≤◌, Bool, true, false, List, [], ◌++◌, length, take, Option, Some, None, Result, Ok, Err}
+use Rattle.std.specs.Prelude.{◌≡◌, ◌≢◌, ◌⊎◌, ℕ, ◌≤◌, Bool, true, false, List, [], ◌++◌, length, take, Option, Some, None, Result, Ok, Err}
 use Rattle.online_repair.specs.Feeds.{Answers}
 use Rattle.online_repair.specs.NotOnline.{not_online}
 use Rattle.online_repair.specs.Output.{IsOutput, Output}
@@ -61,15 +61,6 @@ module _ {S K : Type 0} (left : S → Option (List ℕ)) (source_faults : S → 
     pub online : not_online rules ≡ None
     pub taken : Takes (left source) came (left now)
     pub within : length came ≤ MOST_BYTES
-
-  -- The repair stands for the bytes that came, their text is written, and so many more may come.
-  pub record IsUnderWay (rules : Rules) (room : ℕ) (online : OnlineView) (source source_now : S) (sink sink_now : K) : Type 0 where
-    pub came : List ℕ
-    pub begun : IsBegun rules came source source_now
-    pub room_is : length came + room ≡ MOST_BYTES
-    pub stands : StandsFor online rules false came
-    pub unfailed : Stays (source_faults source) (source_faults source_now)
-    pub written : HasWritten held sink_faults rules came sink sink_now
 
   -- The readings have this answer by the rules, and it is given whole.
   pub record IsGiven (rules : Rules) (source source_now : S) (sink sink_now : K) (outcome : Outcome) : Type 0 where

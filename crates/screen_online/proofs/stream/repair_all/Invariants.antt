@@ -1,4 +1,4 @@
-use Rattle.screen_online.specs.Steps.{IsUnderWay}
+use Rattle.screen_online.proofs.Underway.{IsUnderWay}
 use Rattle.screen_online.proofs.stream.repair_all.Given as goal
 
 -- the repair stands for the bytes that came, and the whole text for them is written
