@@ -113,7 +113,6 @@ window = 100000
 const ROWS: &str = "time,out,note,in\n0,10,a,20\n1,,b,30\n2,8,,9\n";
 
 /// The bounds that are made: rule, rows, column, side, row and column of both ends, which are 0 for none, and limit.
-
 const STEADY: &str = "0 1 1 2 up: 0 0 to 1 2 at most 1000000000000000
 0 1 1 2 down: 1 2 to 0 0 at most 1000000000000000
 0 2 2 2 up: 0 0 to 2 2 at most 1000000000000000
