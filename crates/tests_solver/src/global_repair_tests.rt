@@ -1,5 +1,7 @@
-//! Repairs of small tables, and of tables that have none, by the solver of `path_flow`.
+//! Repairs of small tables, and of tables that have none, by each solver.
 
+use cancel_flow::CancelSolver;
+use flow_core::Solver;
 use global_repair::{Outcome, RepairFault, repair};
 use path_flow::PathSolver;
 use rule_file::{Rules, read_rules};
@@ -173,35 +175,49 @@ fn rules_of(alloc: Global, texts: &[&str]) -> Result<Rules, Fail> {
     Ok(read_rules(alloc, bytes.as_slice())?)
 }
 
-/// What is found for these rules and readings.
-fn found(alloc: Global, texts: &[&str], readings: &str) -> Result<Outcome, Fail> {
+/// What a solver finds for these rules and readings.
+fn found<V: Solver>(
+    alloc: Global,
+    texts: &[&str],
+    readings: &str,
+    solver: &mut V,
+) -> Result<Outcome, Fail> {
     let rules = rules_of(alloc, texts)?;
     let table = read_table(alloc, &rules, readings.as_bytes())?;
-    let mut solver = PathSolver::new(alloc);
-    Ok(repair(alloc, &table, &rules, &mut solver)?)
+    Ok(repair(alloc, &table, &rules, solver)?)
 }
 
-/// The repair is the one of the case.
+/// The series of the repair and what it costs are those of the case.
 fn check_repair(rt: &impl Abort, outcome: &Outcome, case: &Repair) {
     match outcome {
         Outcome::Repaired {
             series,
-            flow,
             total,
             paid,
             ..
         } => {
             assert_eq!(rt; series.as_slice(), case.2);
             assert_eq!(rt; (*total, *paid), (case.3, case.4));
-            assert_eq!(rt; flow.len(), case.5);
         }
         Outcome::NoSeries { .. } => assert!(rt; false),
     }
 }
 
+/// The number of flow items, and 0 where there is no repair.
+fn flow_len(outcome: &Outcome) -> usize {
+    match outcome {
+        Outcome::Repaired { flow, .. } => flow.len(),
+        Outcome::NoSeries { .. } => 0,
+    }
+}
+
 fn check_repairs(rt: &impl Abort, alloc: Global, cases: &[Repair]) -> Result<(), Fail> {
     for case in cases {
-        let outcome = found(alloc, case.0, case.1)?;
+        let outcome = found(alloc, case.0, case.1, &mut PathSolver::new(alloc))?;
+        check_repair(rt, &outcome, case);
+        assert_eq!(rt; flow_len(&outcome), case.5);
+        // By the other solver another flow may show the same.
+        let outcome = found(alloc, case.0, case.1, &mut CancelSolver::new(alloc))?;
         check_repair(rt, &outcome, case);
     }
     Ok(())
@@ -224,8 +240,11 @@ fn cycle_len(outcome: &Outcome) -> usize {
 
 #[test]
 fn a_cycle_is_found_where_no_series_obeys(rt: HostRuntime) -> Result<(), Fail> {
+    let alloc = rt.alloc();
     for case in &WITHOUT_SERIES {
-        let outcome = found(rt.alloc(), case.0, case.1)?;
+        let outcome = found(alloc, case.0, case.1, &mut PathSolver::new(alloc))?;
+        assert_eq!(rt; cycle_len(&outcome), case.2);
+        let outcome = found(alloc, case.0, case.1, &mut CancelSolver::new(alloc))?;
         assert_eq!(rt; cycle_len(&outcome), case.2);
     }
     Ok(())

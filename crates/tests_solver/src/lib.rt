@@ -12,6 +12,10 @@ mod global_repair_tests;
 #[cfg(test)]
 mod neg_cycle_tests;
 #[cfg(test)]
+mod networks;
+#[cfg(test)]
 mod node_heap_tests;
 #[cfg(test)]
 mod path_flow_tests;
+#[cfg(test)]
+mod solvers_tests;

@@ -3,7 +3,7 @@ use Rattle.std.proofs.lemmas.Int.{to_z-of_z}
 use Rattle.std.proofs.lemmas.List.{length_push}
 use Rattle.screen_model.specs.declared.bound.Bound.{Bound}
 use Rattle.path_flow.proofs.Examples.{between, one_bound_more, one_reading_more, same_readings, end_is}
-use Rattle.tests_solver.proofs.path_flow_tests.network.Goals as goal
+use Rattle.tests_solver.proofs.networks.network.Goals as goal
 
 one_more : (xs new : List Bound) (x : Bound) → new ≡ xs ++ x ∷ [] → length new ≡ length xs + 1
 one_more xs new x is = ap (λ (l : List Bound). length l) is ∙ omega (arith, length_push xs x)

@@ -1,6 +1,6 @@
 use Rattle.std.proofs.Common.{◌+◌, ◌*◌, ◌≤◌, length}
 use Rattle.path_flow.proofs.Examples.{AreReadings}
-use Rattle.tests_solver.proofs.path_flow_tests.network.Given as goal
+use Rattle.tests_solver.proofs.networks.network.Given as goal
 
 abbrev pub invariant-loop-i : goal.invariant-loop-i
 invariant-loop-i l = record { are : AreReadings l.i l.places l.series l.kept l.bounds l.prices; few : length l.bounds ≤ 2 * l.i }
