@@ -1,6 +1,5 @@
 pub mod Cut
 pub mod Cycles
-pub mod Examples
 pub mod Numbers
 pub mod Pushing
 pub mod Taking
