@@ -15,7 +15,7 @@ use std::process::Abort;
 use std::test::Fail;
 use time_text::TimeFault;
 
-/// Rule 1 and the first sensor of rule 2 name `x`, its second sensor is `y`. A unit is a tenth.
+/// Rule 1 and the first sensor of rule 2 name `x`, its second sensor is `y`.
 const RULES: &str = "[[speed]]
 sensor = \"x\"
 min = -1
@@ -29,7 +29,6 @@ min = -9
 max = 9
 
 [format]
-decimals = 1
 ";
 
 /// The fields of a line.
@@ -45,10 +44,15 @@ fn cut(alloc: Global, sep: u8, line: &[u8]) -> Result<Fields, Fail>
     Ok(cutter.finish()?.ok_or("no record")?)
 }
 
-/// The rules, with some lines more in their format.
-fn rules_with(alloc: Global, format: &str) -> Result<Rules, Fail> {
-    let text = format!(in alloc; "{RULES}{format}")?;
+/// The rules with so many decimals, and with some lines more in their format.
+fn rules_of(alloc: Global, decimals: u8, format: &str) -> Result<Rules, Fail> {
+    let text = format!(in alloc; "{RULES}decimals = {decimals}\n{format}")?;
     Ok(read_rules(alloc, text.as_bytes())?)
+}
+
+/// The rules, whose unit is a tenth, with some lines more in their format.
+fn rules_with(alloc: Global, format: &str) -> Result<Rules, Fail> {
+    rules_of(alloc, 1, format)
 }
 
 /// The header of a line, or its fault.
@@ -108,10 +112,11 @@ const TIME_IS_NAMED: [HeaderCase; 2] = [
     (b"x,y,t", 3, &[1, 2], 1, 2),
 ];
 
-const TIME_IS_NAMED_REFUSED: [RefusedCase; 4] = [
+const TIME_IS_NAMED_REFUSED: [RefusedCase; 5] = [
     (b"x,y", TableCause::NoSuchSensor { rule: 0 }, 0),
     (b"y,y", TableCause::NoSuchSensor { rule: 0 }, 0),
     (b"t,x,t,t", TableCause::NameTwice, 3),
+    (b"t,x,x,y,t", TableCause::NameTwice, 5),
     (b"t,y,x,y", TableCause::NameTwice, 4),
 ];
 
@@ -204,6 +209,10 @@ fn a_header_has_at_most_256_fields(rt: HostRuntime) -> Result<(), Fail> {
     let header = header_of(alloc, &rules, b',', wide_line(alloc, 253)?.as_slice())??;
     assert!(rt; header.width() == 256);
     assert!(rt; header.sensor_columns() == [255, 256].as_slice());
+    let fault = header_of(alloc, &rules, b',', wide_line(alloc, 254)?.as_slice())?.err();
+    assert!(rt; fault == Some(TableFault::at(0, 0, TableCause::TooManyColumns)));
+    // Before a name that no column bears.
+    let rules = rules_with(alloc, "time = \"t\"\n")?;
     let fault = header_of(alloc, &rules, b',', wide_line(alloc, 254)?.as_slice())?.err();
     assert!(rt; fault == Some(TableFault::at(0, 0, TableCause::TooManyColumns)));
     Ok(())
@@ -360,6 +369,8 @@ fn limits_are_met_at_their_ends(rt: HostRuntime) -> Result<(), Fail> {
     let before = RowsBefore::new(199_999, None, 399_999);
     check_limits(&rt, alloc, before, b"0,1,2", readings, None)?;
     check_limits(&rt, alloc, before, b"0,1,a", value, value)?;
+    let time = Some(TableFault::at(200_000, 1, TableCause::Time(TimeFault::NotTime)));
+    check_limits(&rt, alloc, before, b"noon,1,2", time, time)?;
     check_limits(&rt, alloc, before, b"0,1,", None, None)
 }
 
@@ -371,6 +382,8 @@ fn rows_are_counted_to_their_most(rt: HostRuntime) -> Result<(), Fail> {
     let width = Some(TableFault::at(200_001, 0, TableCause::Width));
     check_limits(&rt, alloc, before, b"0,1,2", rows, None)?;
     check_limits(&rt, alloc, before, b"0", rows, width)?;
+    let before = RowsBefore::new(200_000, None, 400_000);
+    check_limits(&rt, alloc, before, b"0,1,2", rows, None)?;
     let before = RowsBefore::new(3_999_999_999, None, 1_000_000_000_000);
     let rows = Some(TableFault::at(4_000_000_000, 0, TableCause::TooManyRows));
     check_limits(&rt, alloc, before, b"0,1,2", rows, None)?;
@@ -459,6 +472,28 @@ fn rows_are_written_with_other_values(rt: HostRuntime) -> Result<(), Fail> {
     let rules = rules_with(alloc, "separator = \"|\"\n")?;
     let lines: [&[u8]; 3] = [b"|y,|x|y\n", b"5|,|null|7", b"5|,|null|123.4\n"];
     check_text(&rt, alloc, b'|', &rules, lines, 1_234)
+}
+
+/// A number of decimals, and the line of a row whose readings are 1,234,567 units.
+const WITH_DECIMALS: [(u8, &[u8]); 7] = [
+    (0, b"5,1234567,1234567\n"),
+    (1, b"5,123456.7,123456.7\n"),
+    (2, b"5,12345.67,12345.67\n"),
+    (3, b"5,1234.567,1234.567\n"),
+    (4, b"5,123.4567,123.4567\n"),
+    (5, b"5,12.34567,12.34567\n"),
+    (6, b"5,1.234567,1.234567\n"),
+];
+
+#[test]
+fn rows_are_written_with_their_decimals(rt: HostRuntime) -> Result<(), Fail> {
+    let alloc = rt.alloc();
+    for (decimals, line) in WITH_DECIMALS {
+        let rules = rules_of(alloc, decimals, "")?;
+        let lines: [&[u8]; 3] = [b"time,x,y\n", b"5,1,2", line];
+        check_text(&rt, alloc, b',', &rules, lines, 1_234_567)?;
+    }
+    Ok(())
 }
 
 #[test]
