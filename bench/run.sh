@@ -1,10 +1,11 @@
 #!/usr/bin/env bash
 # Runs a proved function and its plain twin in turn on the same inputs, and prints the best time of each for
 # one item and the ratio of the proved time to the plain one. `records` runs texts of three forms, each fed byte by
-# byte and by slices. `table` reads and writes readings files of two and of eight columns, and prints for a row. `bounds`
-# makes the bounds of a speed rule and of a swing rule, and tests the readings by them, and prints for a bound. For the
-# blocked chain it also prints the ratio of its proved time to that of the chain that settles. `cert` reads, writes and
-# checks a certificate, and prints for a line.
+# byte and by slices. `table` reads and writes readings files of two and of eight columns, and prints for a row; it has a
+# second twin, whose rows have no fields of their own, and prints the ratio to that one, too. `bounds` makes the bounds of a
+# speed rule and of a swing rule, and tests the readings by them, and prints for a bound. For the blocked chain it also
+# prints the ratio of its proved time to that of the chain that settles. `cert` reads, writes and checks a certificate, and
+# prints for a line.
 #
 # `solve` and `global` run on files of seven kinds, of 20,000 and of 200,000 readings. `solve` prints what solving takes, how
 # often flow was pushed, and the nodes that the plain searches settled and the arcs that they looked at; then the memory of
@@ -108,7 +109,19 @@ compare() {
         'BEGIN { printf "%.1f bytes a row, proved %.0f MB/s\n", bytes / 200000, bytes / 200000 * 1000000 / proved }'
     # The proved side of `bounds` tells the bytes of a bound.
     [ "$what" != bounds ] || echo "$size bytes a bound"
-    last=$best_proved
+    last=$best_proved last_sum=$proved_sum
+}
+
+# to_free NAME: how much longer the proved side took than the twin with the best free layout.
+to_free() {
+    local took sum best=
+    for _ in $(seq "$rounds"); do
+        read -r took sum _ < <(bench/out/free "$1")
+        [ "$sum" = "$last_sum" ] || { echo "the answers differ: $sum and $last_sum"; exit 1; }
+        [ -n "$best" ] && [ "$best" -le "$took" ] || best=$took
+    done
+    awk -v free="$best" -v proved="$last" \
+        'BEGIN { printf "with the best free layout: %.1f ns, ratio %.1f\n", free / 1000, proved / free }'
 }
 
 # least FILE: the least number of each column.
@@ -192,8 +205,10 @@ records)
         compare "$name"
     done ;;
 table)
+    rustc -O -o bench/out/free bench/twins/free.rs
     for name in table-read-2 table-read-8 table-text-2 table-text-8; do
         compare "$name"
+        to_free "$name"
     done ;;
 bounds)
     for name in bounds-speed bounds-swing broken-speed broken-swing; do
