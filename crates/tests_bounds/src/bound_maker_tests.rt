@@ -3,7 +3,8 @@ ghost use Rattle.std.specs.Prelude.{◌≤◌, length};
 ghost use Rattle.bound_maker.specs.declared.maker.TheConstants.{MOST_BOUNDS};
 
 use bound_maker::{
-    MakeFault, bound_of, change_of, cost_of, first_broken, make, paid_of, price_of, weight_of,
+    MakeFault, bound_of, change_of, cost_of, first_broken, make, paid_for, paid_of, price_of,
+    weight_of, weights_of,
 };
 use rule_file::{Rules, read_rules};
 use screen_model::{Bound, BoundList, BoundName, End, Place, Series, Side};
@@ -456,6 +457,9 @@ fn costs(
     assert_eq!(rt; series.len(), table.len() as usize);
     assert_eq!(rt; change_of(table, rules, series), cost.1);
     assert_eq!(rt; paid_of(table, rules, bounds, series), cost.2);
+    assert_eq!(rt; paid_for(table, rules, bounds.as_slice(), series), cost.2);
+    let none: [Bound; 0] = [];
+    assert_eq!(rt; paid_for(table, rules, &none, series), 0);
     assert_eq!(rt;
         cost_of(table, rules, bounds, series),
         cost.1.saturating_add(cost.2)
@@ -502,6 +506,61 @@ fn weights_and_prices(rt: HostRuntime) -> Result<(), Fail> {
     }
     for (rule, price) in [(0, 0), (1, 0), (2, 0), (3, 0), (4, 0), (5, 4), (6, 0)] {
         assert_eq!(rt; price_of(&rules, rule), price);
+    }
+    Ok(())
+}
+
+/// Weight rules of two sensors that begin, end and overlap between readings, or go on for ever.
+const WEIGHTS: &str = "[format]
+decimals = 0
+[[weight]]
+sensor = \"x\"
+weight = 5
+from = 2
+to = 4
+[[weight]]
+sensor = \"y\"
+weight = 3
+[[weight]]
+sensor = \"x\"
+weight = 7
+from = 4
+to = 6
+[[weight]]
+sensor = \"x\"
+weight = 1000
+to = 0
+[[weight]]
+sensor = \"y\"
+weight = 2
+from = 5
+";
+
+/// Rules, readings, and the weights of these in their order.
+const WEIGHED: [(&str, &str, &[u32]); 5] = [
+    (SPEED, "time,x\n", &[]),
+    (SPEED, "time,x\n0,1\n1,2\n5,\n9,3\n", &[1, 1, 1]),
+    (WEIGHTS, "time,x,y\n", &[]),
+    (WEIGHTS, "time,x,y\n0,,\n3,,1\n4,9,\n", &[3, 7]),
+    (
+        WEIGHTS,
+        "time,x,y\n0,1,1\n2,1,1\n3,1,\n4,1,1\n5,1,1\n7,1,1\n",
+        &[1000, 3, 5, 3, 5, 7, 3, 7, 2, 1, 2],
+    ),
+];
+
+#[test]
+fn weights_of_all_readings(rt: HostRuntime) -> Result<(), Fail> {
+    for (rules, readings, wanted) in WEIGHED {
+        let (rules, table) = read(rt.alloc(), rules, readings.as_bytes())?;
+        let weights = weights_of(rt.alloc(), &table, &rules)?;
+        assert_eq!(rt; weights.as_slice(), wanted);
+        for i in 0..table.len() {
+            assert_eq!(rt;
+                weights.get(i as usize).copied(),
+                Some(weight_of(&table, &rules, i))
+            );
+        }
     }
     Ok(())
 }

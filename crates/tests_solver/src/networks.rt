@@ -25,6 +25,7 @@ pub(crate) struct PricedBound {
     pub(crate) price: u32,
 }
 
+/// A bound from a node to another one, where node 0 is Zero.
 pub(crate) fn line(tail: u32, head: u32, limit: i64, price: u32) -> PricedBound {
     PricedBound {
         tail,
@@ -34,6 +35,7 @@ pub(crate) fn line(tail: u32, head: u32, limit: i64, price: u32) -> PricedBound 
     }
 }
 
+/// The end that is this node.
 fn end(node: u32) -> End
     ensures { result ≡ (if node == 0 then Zero else At (record { row = node; col = 2 })) }
 {
@@ -44,6 +46,7 @@ fn end(node: u32) -> End
     }
 }
 
+/// A bound of a name that all bounds here share.
 fn bound(first: End, second: End, limit: i64) -> Bound
     ensures { result ≡ record { name = record { rule = 1; from_row = 1; to_row = 1; col = 2; side = Side.Up }; first = first; second = second; limit = limit } }
 {

@@ -47,7 +47,7 @@ fn compare(rt: &impl Abort, alloc: Global, state: &mut u64, count: u64) -> Resul
     let lists = drawn(alloc, state, count)?;
     let came = agreed(rt, alloc, &lists.readings, &lists.lines)?;
     assert!(rt; came.by_paths <= promised(&lists.readings, &lists.lines));
-    if count < 4 {
+    if count < 5 {
         assert_eq!(rt; came.cost, least_cost(&lists.readings, &lists.lines));
     }
     Ok(came.cost.is_some())
