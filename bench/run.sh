@@ -1,11 +1,11 @@
 #!/usr/bin/env bash
 # Runs a proved function and its plain twin in turn on the same inputs, and prints the best time of each for
 # one item and the ratio of the proved time to the plain one. `records` runs texts of three forms, each fed byte by
-# byte and by slices. `table` reads and writes readings files of two and of eight columns, and prints for a row; it has a
-# second twin, whose rows have no fields of their own, and prints the ratio to that one, too. `bounds` makes the bounds of a
-# speed rule and of a swing rule, and tests the readings by them, and prints for a bound. For the blocked chain it also
-# prints the ratio of its proved time to that of the chain that settles. `cert` reads, writes and checks a certificate, and
-# prints for a line.
+# byte and by slices. `table` reads and writes readings files of two and of eight columns, and prints for a row; after the
+# ratio stands that to a second twin, which does the same in the layout that is fastest. It is only told: no limit is set
+# on it. `bounds` makes the bounds of a speed rule and of a swing rule, and tests the readings by them, and prints for a
+# bound. For the blocked chain it also prints the ratio of its proved time to that of the chain that settles. `cert` reads,
+# writes and checks a certificate, and prints for a line.
 #
 # `solve` and `global` run on files of seven kinds, of 20,000 and of 200,000 readings. `solve` prints what solving takes, how
 # often flow was pushed, and the nodes that the plain searches settled and the arcs that they looked at; then the memory of
@@ -87,6 +87,8 @@ twin=$what
 [ "$what" != global ] || twin=solve
 
 rustc -O -o "bench/out/$twin" "bench/twins/$twin.rs"
+# A table has a second twin, in the layout that is fastest.
+[ "$what" != table ] || rustc -O -o bench/out/free bench/twins/free.rs
 proved=crates/measure/out/measure
 rm -f "$proved"
 (cd crates/measure && rt run) > bench/out/build.log 2>&1 || true
@@ -94,34 +96,30 @@ test -x "$proved" || { tail -n 20 bench/out/build.log; exit 1; }
 
 # compare NAME: both sides in turn, and the best time of each.
 compare() {
-    local name=$1 plain_time plain_sum proved_time proved_sum bytes size best_plain= best_proved=
+    local name=$1 plain_time plain_sum proved_time proved_sum free_time free_sum bytes size best_plain= best_proved= best_free=
     for _ in $(seq "$rounds"); do
         read -r plain_time plain_sum bytes < <("bench/out/$twin" "$name")
         read -r proved_time proved_sum size < <("$proved" "$name")
         [ "$plain_sum" = "$proved_sum" ] || { echo "the answers differ: $plain_sum and $proved_sum"; exit 1; }
         [ -n "$best_plain" ] && [ "$best_plain" -le "$plain_time" ] || best_plain=$plain_time
         [ -n "$best_proved" ] && [ "$best_proved" -le "$proved_time" ] || best_proved=$proved_time
+        [ "$what" = table ] || continue
+        read -r free_time free_sum _ < <(bench/out/free "$name")
+        [ "$free_sum" = "$proved_sum" ] || { echo "the answers differ: $free_sum and $proved_sum"; exit 1; }
+        [ -n "$best_free" ] && [ "$best_free" -le "$free_time" ] || best_free=$free_time
     done
-    awk -v name="$name" -v plain="$best_plain" -v proved="$best_proved" \
-        'BEGIN { printf "%s: plain %.1f ns, proved %.1f ns, ratio %.2f\n", name, plain / 1000, proved / 1000, proved / plain }'
+    awk -v name="$name" -v plain="$best_plain" -v proved="$best_proved" -v free="$best_free" \
+        'BEGIN {
+            printf "%s: plain %.1f ns, proved %.1f ns, ratio %.2f", name, plain / 1000, proved / 1000, proved / plain
+            if (free != "") printf ", to the best free layout: %.1f", proved / free
+            print ""
+        }'
     # The bytes of a file are told where the items are its rows, of which there are 200,000.
     [ -z "$bytes" ] || awk -v bytes="$bytes" -v proved="$best_proved" \
         'BEGIN { printf "%.1f bytes a row, proved %.0f MB/s\n", bytes / 200000, bytes / 200000 * 1000000 / proved }'
     # The proved side of `bounds` tells the bytes of a bound.
     [ "$what" != bounds ] || echo "$size bytes a bound"
-    last=$best_proved last_sum=$proved_sum
-}
-
-# to_free NAME: how much longer the proved side took than the twin with the best free layout.
-to_free() {
-    local took sum best=
-    for _ in $(seq "$rounds"); do
-        read -r took sum _ < <(bench/out/free "$1")
-        [ "$sum" = "$last_sum" ] || { echo "the answers differ: $sum and $last_sum"; exit 1; }
-        [ -n "$best" ] && [ "$best" -le "$took" ] || best=$took
-    done
-    awk -v free="$best" -v proved="$last" \
-        'BEGIN { printf "with the best free layout: %.1f ns, ratio %.1f\n", free / 1000, proved / free }'
+    last=$best_proved
 }
 
 # least FILE: the least number of each column.
@@ -205,10 +203,8 @@ records)
         compare "$name"
     done ;;
 table)
-    rustc -O -o bench/out/free bench/twins/free.rs
     for name in table-read-2 table-read-8 table-text-2 table-text-8; do
         compare "$name"
-        to_free "$name"
     done ;;
 bounds)
     for name in bounds-speed bounds-swing broken-speed broken-swing; do

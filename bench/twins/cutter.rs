@@ -1,7 +1,8 @@
 //! The plain twin of `record_cut`: an automaton of the same form, with no proof.
 #![allow(dead_code)]
 
-const LONGEST: u32 = 65_536;
+/// The most bytes of a record.
+pub const LONGEST: u32 = 65_536;
 
 #[derive(Clone, Copy, PartialEq, Debug)]
 pub enum Fault {

@@ -19,8 +19,8 @@ pub struct Form<'a> {
 /// How much a readings file may hold.
 #[derive(Clone, Copy)]
 pub struct Limits {
-    rows: u32,
-    readings: u64,
+    pub rows: u32,
+    pub readings: u64,
 }
 
 /// A table that is kept whole.
@@ -135,8 +135,13 @@ pub fn read_header(fields: Fields, form: &Form) -> Result<Header, TableFault> {
     Ok(Header { fields, time_col: 1, sensor_cols, from_left })
 }
 
-fn ticks(field: &[u8]) -> Result<i64, Cause> {
+pub fn ticks(field: &[u8]) -> Result<i64, Cause> {
     scaled(trimmed(field), 9, Extra::Refuse, 9_000_000_000_000_000_000).map_err(Cause::Time)
+}
+
+/// Whether a sensor has no reading in a field.
+pub fn is_missing(field: &[u8]) -> bool {
+    matches!(trimmed(field), b"" | b"NaN" | b"nan" | b"NA" | b"null")
 }
 
 /// The row of the fields, after what stands before it.
@@ -163,7 +168,7 @@ pub fn read_row(
     let mut row = Row { fields, ticks, time_col, readings: Few::new(), missing: Few::new() };
     for col in &header.from_left {
         let field = row.fields.at(*col as usize - 1);
-        if matches!(trimmed(field), b"" | b"NaN" | b"nan" | b"NA" | b"null") {
+        if is_missing(field) {
             row.missing.push(*col);
         } else {
             let read = units(field, form.decimals, Extra::Refuse);

@@ -4,15 +4,15 @@
 //! and the bytes of the file.
 
 mod cutter;
-mod file;
 mod number;
 mod number_text;
 mod reader;
 mod rows;
+mod table_file;
 
-use file::{ROWS, file};
 use reader::{Form, read_table, table_text};
 use std::time::Instant;
+use table_file::{ROWS, file};
 
 fn main() {
     let name = std::env::args().nth(1).unwrap_or_default();

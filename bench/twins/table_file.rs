@@ -1,4 +1,4 @@
-//! The readings files of the bench `table`.
+//! The readings files on which tables are measured.
 
 use crate::number_text::push_text_of;
 
