@@ -88,6 +88,7 @@ fn excess(first: i64, second: i64, limit: i64) -> u128
 }
 
 /// How far a series is above what a bound allows.
+#[inline(always)]
 fn excess_of(table: &Table, series: &Series, bound: Bound) -> u128
     ensures value { result ≡ above_zero (rise (places table.now) series.now bound -ℤ bound.limit) }
     ensures small { result ≤ 2 ^ 66 }

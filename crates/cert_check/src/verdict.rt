@@ -22,8 +22,9 @@ use std::alloc::Global;
 
 /// What a certificate is accepted as, by the rules and the table that was read. The bounds are those that `make` gives.
 ///
-/// It takes time in proportion to the readings, the bounds and the lines. A flow line or a step line may also name a bound
-/// that is not among those that are made.
+/// It takes time in proportion to the readings, the bounds and the lines; beside that the weight rules are gone over once for
+/// each sensor column, and for each time at which one of them begins or ends. A flow line or a step line may also name a
+/// bound that is not among those that are made.
 ///
 /// # Errors
 ///
