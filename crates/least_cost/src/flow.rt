@@ -6,20 +6,21 @@ ghost use Rattle.flow_core.specs.State.{IsNetwork, bound_flows};
 
 use flow_core::Network;
 use screen_model::{BoundList, BoundName, FlowItem, FlowList};
-use std::alloc::{AllocError, Global};
+use std::alloc::AllocError;
 
-/// An item for each bound on which something flows, in the order of the bounds.
+/// An item for each bound on which something flows, in the order of the bounds, in the list that is handed in.
 pub(crate) fn flow_in(
-    alloc: Global,
+    empty: FlowList,
     bounds: &BoundList,
     prices: &[u32],
     net: &Network,
 ) -> Result<FlowList, AllocError>
+    requires empty { empty ≡ [] }
     requires network { IsNetwork net.now }
     requires bounds { length bounds.now ≡ length net.now.network.bounds }
     ensures { IfOk result (λ items. items ≡ items_of (with_prices bounds.now prices.now) (bound_flows net.now)) }
 {
-    let mut items = FlowList::with_capacity(alloc, flowing(net))?;
+    let mut items = empty;
     for (number, bound) in bounds.as_slice().iter().enumerate() {
         push_item(&mut items, bound.name, net.flow(number as u32))?;
     }
@@ -34,15 +35,4 @@ fn push_item(items: &mut FlowList, name: BoundName, amount: i64) -> Result<(), A
         items.push(FlowItem { name, amount })?;
     }
     Ok(())
-}
-
-/// On how many bounds something flows.
-fn flowing(net: &Network) -> usize {
-    let mut count = 0usize;
-    for bound in 0..net.bounds() {
-        if net.flow(bound) != 0 {
-            count = count.saturating_add(1);
-        }
-    }
-    count
 }

@@ -4,6 +4,7 @@
 //! (weak duality of linear programs; the distance is that of Song, Zhang, Wang and Yu, SCREEN, SIGMOD 2015).
 #![tactic(auto)]
 
+mod answer;
 mod cycle;
 mod flow;
 mod laws;

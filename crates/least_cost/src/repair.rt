@@ -1,5 +1,5 @@
 //! The repair of a problem, by a solver that is lent.
-ghost use Rattle.std.specs.Prelude.{◌≡◌, ℕ, length, Option, IfOk};
+ghost use Rattle.std.specs.Prelude.{◌≡◌, ℕ, [], length, Option, IfOk};
 ghost use Rattle.bound_graph.specs.Cycle.{IsNegativeCycle};
 ghost use Rattle.flow_core.specs.Laws.{IsNetworkOf};
 ghost use Rattle.flow_core.specs.Layout.{nodes_of};
@@ -8,6 +8,7 @@ ghost use Rattle.flow_core.specs.Views.{bare_arcs};
 ghost use Rattle.least_cost.specs.Answer.{Answers, CountsChanges};
 ghost use Rattle.least_cost.specs.Problems.{IsSolvable, stated};
 
+use crate::answer::AnswerLists;
 use crate::cycle::cycle_in;
 use crate::flow::flow_in;
 use crate::outcome::Outcome;
@@ -19,8 +20,8 @@ use std::alloc::{AllocError, Global};
 
 /// The repair of a problem, or a cycle of bounds that shows that no series obeys.
 ///
-/// All memory that the solver needs is taken before it begins, and the lists of the answer after it, each in one piece. The
-/// error is that memory ran out.
+/// All memory is taken before the solver begins, that of the answer with it: 28 bytes for each node and 32 for each bound, of
+/// which only what the answer fills is ever written. The error is that memory ran out.
 pub fn least_cost<V: Solver>(
     alloc: Global,
     problem: &Problem<'_>,
@@ -40,20 +41,23 @@ pub fn least_cost<V: Solver>(
         problem.places,
     )?;
     let mut room = Room::for_nodes(alloc, net.nodes())?;
+    let lists = AnswerLists::with_room(alloc, net.nodes(), net.bounds())?;
     solver.prepare(alloc, net.nodes(), net.arcs())?;
     match solver.solve(&mut net, &mut room) {
-        Solved::Best => repaired(alloc, problem, &net, &mut room),
-        Solved::Blocked => no_series(alloc, problem, &net, &room),
+        Solved::Best => repaired(lists, problem, &net, &mut room),
+        Solved::Blocked => no_series(lists, problem, &net, &room),
     }
 }
 
 /// The repair, of a network that is solved.
 fn repaired(
-    alloc: Global,
+    lists: AnswerLists,
     problem: &Problem<'_>,
     net: &Network,
     room: &mut Room,
 ) -> Result<Outcome, AllocError>
+    requires series { lists.series ≡ [] }
+    requires flow { lists.flow ≡ [] }
     requires solvable { IsSolvable problem.now }
     requires network { IsNetworkOf (stated problem.now) net.now }
     requires solved { IsSolved net.now }
@@ -62,8 +66,8 @@ fn repaired(
     ensures changes { (most : ℕ → ℕ → ℕ → ℕ → Option ℕ) → AreAtMost most net.now → IfOk result (CountsChanges (stated problem.now) most net.now.changes) }
 {
     settle_tight(net, room);
-    let series = series_in(alloc, net.nodes(), room)?;
-    let flow = flow_in(alloc, problem.bounds, problem.prices, net)?;
+    let series = series_in(lists.series, net.nodes(), room)?;
+    let flow = flow_in(lists.flow, problem.bounds, problem.prices, net)?;
     let total = net.value();
     let paid = total
         - change(
@@ -83,17 +87,18 @@ fn repaired(
 
 /// The names of the cycle that the solver found.
 fn no_series(
-    alloc: Global,
+    lists: AnswerLists,
     problem: &Problem<'_>,
     net: &Network,
     room: &Room,
 ) -> Result<Outcome, AllocError>
+    requires empty { lists.cycle ≡ [] }
     requires solvable { IsSolvable problem.now }
     requires network { IsNetworkOf (stated problem.now) net.now }
     requires cycle { IsNegativeCycle (bare_arcs net.now) room.now.cycle }
     ensures answer { IfOk result (Answers (stated problem.now)) }
     ensures changes { (most : ℕ → ℕ → ℕ → ℕ → Option ℕ) (last : ℕ) → IfOk result (CountsChanges (stated problem.now) most last) }
 {
-    let cycle = cycle_in(alloc, problem.bounds, room)?;
+    let cycle = cycle_in(lists.cycle, problem.bounds, room)?;
     Ok(Outcome::NoSeries { cycle })
 }

@@ -1,5 +1,5 @@
 //! The greatest series that respects the tight arcs of a solved network, and its change.
-ghost use Rattle.std.specs.Prelude.{◌≡◌, ◌*◌, ◌^◌, ◌≤◌, ◌<◌, ◌∷◌, ◌-ℤ◌, pos, length, drop, replicate, unsigned_abs, IfOk};
+ghost use Rattle.std.specs.Prelude.{◌≡◌, ◌*◌, ◌^◌, ◌≤◌, ◌<◌, [], ◌∷◌, ◌-ℤ◌, pos, length, drop, replicate, unsigned_abs, IfOk};
 ghost use Rattle.std.specs.List.{AllByRecursion};
 ghost use Rattle.screen_model.specs.declared.limits.TheConstants.{MOST_READINGS};
 ghost use Rattle.screen_model.specs.Cost.{weighted_change};
@@ -13,7 +13,7 @@ ghost use Rattle.flow_core.specs.declared.limits.TheConstants.{MOST_VALUE};
 use flow_core::{MOST_VALUE, Network};
 use neg_cycle::{Room, Settled, settle};
 use screen_model::Series;
-use std::alloc::{AllocError, Global};
+use std::alloc::AllocError;
 
 /// Settles the tight arcs of a solved network, with 0 at node 0 and the greatest value at the others.
 pub(crate) fn settle_tight(net: &Network, room: &mut Room)
@@ -30,14 +30,15 @@ pub(crate) fn settle_tight(net: &Network, room: &mut Room)
     prove!(settled == Settled::Greatest);
 }
 
-/// The distances of the readings' nodes as a series.
-pub(crate) fn series_in(alloc: Global, nodes: u32, room: &Room) -> Result<Series, AllocError>
+/// The distances of the readings' nodes as a series, in the list that is handed in.
+pub(crate) fn series_in(empty: Series, nodes: u32, room: &Room) -> Result<Series, AllocError>
+    requires empty { empty ≡ [] }
     requires nodes { length room.now.distances ≡ nodes }
     requires some { 1 ≤ nodes }
     requires small { AllByRecursion (λ distance. unsigned_abs distance ≤ MOST_VALUE) room.now.distances }
     ensures { IfOk result (λ series. series ≡ drop 1 room.now.distances) }
 {
-    let mut series = Series::with_capacity(alloc, nodes as usize)?;
+    let mut series = empty;
     for node in 1..nodes {
         series.push(room.distance(node) as i64)?;
     }

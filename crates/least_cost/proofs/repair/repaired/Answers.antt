@@ -53,8 +53,8 @@ small_here c = subst (λ (series : List ℤ). AllByRecursion (λ value. unsigned
 
 pub returns-clause-answer : goal.returns-clause-answer
 returns-clause-answer c =
-    let read = paid_here c.before in
-    is_repaired c.args.problem.now c.args.net.now c.in_ok-series.series c.in_ok-flow.flow _ _ c.requires.solvable c.requires.network (found_here c.before) (small_here c.before) c.in_ok-flow.ensures (read.total_read ∙ c.value-total.ensures) read.paid_read
+    let read = paid_here c.before.before.before in
+    is_repaired c.args.problem.now c.args.net.now c.in_ok-series.series c.in_ok-flow.flow _ _ c.requires.solvable c.requires.network (found_here c.before.before.before) (small_here c.before.before.before) c.in_ok-flow.ensures (read.total_read ∙ c.value-total.ensures) read.paid_read
 
 pub returns-clause-changes : goal.returns-clause-changes
 returns-clause-changes c = λ most few. are_changes c.args.problem.now c.args.net.now c.in_ok-flow.flow most c.changes-changes.result c.requires.network c.in_ok-flow.ensures c.changes-changes.ensures few
