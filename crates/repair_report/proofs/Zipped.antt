@@ -1,5 +1,5 @@
 -- The readings of a table with the values of a series.
-use Rattle.std.proofs.Common.{◌≡◌, ℕ, zero, suc, ◌+◌, ◌*◌, ◌<◌, ◌≤◌, ℤ, ◌-ℤ◌, Bool, List, [], ◌∷◌, ◌++◌, length, map, filter, take, drop, get_or, Option, Some, None, refl, sym, ap, ◌∙◌, arith}
+use Rattle.std.proofs.Common.{◌≡◌, ℕ, zero, suc, ◌+◌, ◌*◌, ◌<◌, ◌≤◌, ℤ, ◌-ℤ◌, Bool, List, [], ◌∷◌, ◌++◌, length, map, filter, take, get_or, Option, Some, None, refl, sym, ap, ◌∙◌, arith}
 use Rattle.std.specs.Prelude.{slice_get, sum, unsigned_abs}
 use Rattle.std.proofs.lemmas.List.{take_more}
 use Rattle.std.proofs.lemmas.List.Elements.{filter-append}
@@ -69,11 +69,6 @@ pub passed_one : {A : Type 0} (test : A → Bool) (xs : List A) (i : ℕ) (x : A
     → old ≡ filter test (take i xs) → new ≡ old ++ filter test (x ∷ []) → new ≡ filter test (take (i + 1) xs)
 passed_one test xs i x old new at before pushed =
     pushed ∙ (ap (λ ys. ys ++ filter test (x ∷ [])) before ∙ (sym (filter-append test (take i xs) (x ∷ [])) ∙ ap (filter test) (sym (take_one xs i x at))))
-
-pub drop_one : {A : Type 0} (xs : List A) (i : ℕ) (x : A) → slice_get xs i ≡ Some x → drop i xs ≡ x ∷ drop (i + 1) xs
-drop_one [] i x at = absurd (none_is_some x at)
-drop_one (y ∷ xs) zero x at = ap (λ z. z ∷ xs) (some_one at)
-drop_one (y ∷ xs) (suc i) x at = let next : suc (i + 1) ≡ suc i + 1 = omega arith in drop_one xs i x at ∙ ap (λ n. x ∷ drop n (y ∷ xs)) next
 
 pub take_whole : {A : Type 0} (xs : List A) (i : ℕ) → length xs ≤ i → take i xs ≡ xs
 take_whole [] zero h = refl

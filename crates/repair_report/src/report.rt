@@ -81,11 +81,7 @@ fn sums_fit(table: &Table, rules: &Rules, series: &Series, tallies: &[Tally])
 }
 
 /// Adds the line of each of these readings, which changed.
-fn push_changes(
-    text: &mut Vec<u8>,
-    decimals: u32,
-    changes: &[Repaired],
-) -> Result<(), AllocError>
+fn push_changes(text: &mut Vec<u8>, decimals: u32, changes: &[Repaired]) -> Result<(), AllocError>
     requires { decimals ≤ 6 }
     ensures { OnOk result (text.new.items ≡ text.old.items ++ text_of_lines (map (change_line decimals) changes.now)) }
 {

@@ -1,4 +1,4 @@
-use Rattle.std.proofs.Common.{◌+◌, ◌≤◌, List, ◌∷◌, [], ◌++◌, filter, length, take, sym, ap, ◌∙◌, subst, arith}
+use Rattle.std.proofs.Common.{◌≤◌, List, filter, length, take, sym, ap, ◌∙◌, subst, arith}
 use Rattle.series_csv.specs.Readings.{places, values}
 use Rattle.bound_maker.specs.Costs.{weights}
 use Rattle.repair_report.specs.declared.reading.Repaired.{Repaired}

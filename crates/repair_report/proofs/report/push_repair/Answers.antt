@@ -4,8 +4,8 @@ use Rattle.repair_report.specs.RepairLines.{change_lines, column_lines, flow_lin
 use Rattle.repair_report.proofs.Joined.{lines_joined, on_ok}
 use Rattle.repair_report.proofs.report.push_repair.Goals as goal
 
-pub compare-comparison-requires : goal.compare-comparison-requires
-compare-comparison-requires c = c.requires.repair.best.best.whole ∙ c.places-places.ensures.len
+pub compare-requires : goal.compare-requires
+compare-requires c = c.requires.repair.best.best.whole ∙ c.places-places.ensures.len
 
 pub push_sums-requires-clause-obeys : goal.push_sums-requires-clause-obeys
 push_sums-requires-clause-obeys c = c.requires.repair.best.best.obeys
