@@ -1,7 +1,7 @@
 -- Texts that are added one after the other.
-use Rattle.std.proofs.Common.{◌≡◌, ℕ, ◌+◌, ◌<◌, ◌≤◌, ℤ, cond, List, [], ◌∷◌, ◌++◌, append_assoc, drop, get_or, length, map, Result, Ok, Err, OnOk, sym, ap, ◌∙◌}
+use Rattle.std.proofs.Common.{◌≡◌, ℕ, ◌≤◌, ℤ, cond, List, [], ◌∷◌, ◌++◌, append_assoc, drop, length, map, Result, Ok, Err, OnOk, sym, ap, ◌∙◌}
 use Rattle.std.specs.Prelude.{◌==◌, codes}
-use Rattle.std.proofs.lemmas.List.{append-nil, drop_all, drop_more, map-append}
+use Rattle.std.proofs.lemmas.List.{append-nil, drop_all}
 use Rattle.cert_format.specs.Words.{line_feed, line_of_words, space, text_of_lines}
 use Rattle.cert_format.proofs.Texts.{text-append}
 use Rattle.repair_report.specs.Lines.{value_line}
@@ -40,20 +40,7 @@ pub on_ok : {A E P Q : Type 0} (result : Result A E) → (P → Q) → OnOk resu
 on_ok (Ok x) to p = to p
 on_ok (Err e) to p = tt
 
--- the lines of some elements, and of one more
-pub mapped_more : {A : Type 0} (line : A → List ℕ) (before t new : List ℕ) (xs more : List A) → t ≡ before ++ text_of_lines (map line xs) → new ≡ t ++ text_of_lines (map line more)
-    → new ≡ before ++ text_of_lines (map line (xs ++ more))
-mapped_more line before t new xs more first second =
-    lines_joined before t new (map line xs) (map line more) first second ∙ ap (λ lines. before ++ text_of_lines lines) (sym (map-append line xs more))
-
--- the lines of the elements that are left, of which one is written
-pub mapped_next : {A : Type 0} (line : A → List ℕ) (t new : List ℕ) (xs : List A) (i : ℕ) (d : A) (all : List ℕ) → i < length xs
-    → t ++ text_of_lines (map line (drop i xs)) ≡ all → new ≡ t ++ (line (get_or xs i d) ++ line_feed ∷ []) → new ++ text_of_lines (map line (drop (i + 1) xs)) ≡ all
-mapped_next line t new xs i d all h before pushed =
-    line_joined t new (line (get_or xs i d)) (map line (drop (i + 1) xs)) pushed
-    ∙ (ap (λ ys. t ++ text_of_lines (map line ys)) (sym (drop_more xs i d h)) ∙ before)
-
--- and where none is left
+-- the lines of the elements that are left, where none is
 pub mapped_done : {A : Type 0} (line : A → List ℕ) (t all : List ℕ) (xs : List A) (i : ℕ) → length xs ≤ i → t ++ text_of_lines (map line (drop i xs)) ≡ all → t ≡ all
 mapped_done line t all xs i h left = sym (append-nil t) ∙ (ap (λ ys. t ++ text_of_lines (map line ys)) (sym (drop_all i xs h)) ∙ left)
 

@@ -1,7 +1,8 @@
 -- The readings of a table with the values of a series.
-use Rattle.std.proofs.Common.{◌≡◌, ℕ, zero, suc, ◌+◌, ◌*◌, ◌<◌, ◌≤◌, ℤ, ◌-ℤ◌, List, [], ◌∷◌, ◌++◌, length, map, take, drop, get_or, Option, Some, None, refl, sym, ap, ◌∙◌, arith}
+use Rattle.std.proofs.Common.{◌≡◌, ℕ, zero, suc, ◌+◌, ◌*◌, ◌<◌, ◌≤◌, ℤ, ◌-ℤ◌, Bool, List, [], ◌∷◌, ◌++◌, length, map, filter, take, get_or, Option, Some, None, refl, sym, ap, ◌∙◌, arith}
 use Rattle.std.specs.Prelude.{slice_get, sum, unsigned_abs}
 use Rattle.std.proofs.lemmas.List.{take_more}
+use Rattle.std.proofs.lemmas.List.Elements.{filter-append}
 use Rattle.std.proofs.lemmas.List.Sums.{sum_by-cons}
 use Rattle.screen_model.specs.declared.place.Place.{Place}
 use Rattle.screen_model.specs.Cost.{weighted_change}
@@ -63,10 +64,11 @@ there_got (y ∷ xs) (suc i) x d at = there_got xs i x d at
 pub take_one : {A : Type 0} (xs : List A) (i : ℕ) (x : A) → slice_get xs i ≡ Some x → take (i + 1) xs ≡ take i xs ++ x ∷ []
 take_one xs i x at = take_more xs i x (there_within xs i x at) ∙ ap (λ y. take i xs ++ y ∷ []) (there_got xs i x x at)
 
-pub drop_one : {A : Type 0} (xs : List A) (i : ℕ) (x : A) → slice_get xs i ≡ Some x → drop i xs ≡ x ∷ drop (i + 1) xs
-drop_one [] i x at = absurd (none_is_some x at)
-drop_one (y ∷ xs) zero x at = ap (λ z. z ∷ xs) (some_one at)
-drop_one (y ∷ xs) (suc i) x at = let next : suc (i + 1) ≡ suc i + 1 = omega arith in drop_one xs i x at ∙ ap (λ n. x ∷ drop n (y ∷ xs)) next
+-- those that pass a test, among one element more
+pub passed_one : {A : Type 0} (test : A → Bool) (xs : List A) (i : ℕ) (x : A) (old new : List A) → slice_get xs i ≡ Some x
+    → old ≡ filter test (take i xs) → new ≡ old ++ filter test (x ∷ []) → new ≡ filter test (take (i + 1) xs)
+passed_one test xs i x old new at before pushed =
+    pushed ∙ (ap (λ ys. ys ++ filter test (x ∷ [])) before ∙ (sym (filter-append test (take i xs) (x ∷ [])) ∙ ap (filter test) (sym (take_one xs i x at))))
 
 pub take_whole : {A : Type 0} (xs : List A) (i : ℕ) → length xs ≤ i → take i xs ≡ xs
 take_whole [] zero h = refl

@@ -1,3 +1,4 @@
+pub mod Comparison
 pub mod Lines
 pub mod Readings
 pub mod RepairLines

@@ -1,7 +1,7 @@
 -- For proofs: what is told of the readings of each column, counted one by one.
-use Rattle.std.specs.Prelude.{◌≡◌, ℕ, ◌+◌, ◌^◌, ◌≤◌, if◌then◌else◌, List, length, map, filter, sum, get_or}
+use Rattle.std.specs.Prelude.{◌≡◌, ℕ, ◌+◌, ◌^◌, ◌<◌, ◌≤◌, if◌then◌else◌, List, length, map, filter, sum, get_or}
 use Rattle.std.specs.List.{AllByRecursion}
-use Rattle.screen_model.specs.declared.limits.TheConstants.{MOST_COLUMNS}
+use Rattle.screen_model.specs.declared.limits.TheConstants.{MOST_COLUMNS, MOST_READINGS}
 use Rattle.repair_report.specs.declared.reading.Repaired.{Repaired}
 use Rattle.repair_report.specs.declared.tally.Tally.{Tally}
 use Rattle.repair_report.specs.Readings.{in_column, is_changed, weighted}
@@ -21,3 +21,7 @@ pub record AreTallies (readings : List Repaired) (tallies : List Tally) : Type 0
   pub long : length tallies ≡ MOST_COLUMNS + 1
   pub each : (col : ℕ) (d : Tally) → col ≤ MOST_COLUMNS → get_or tallies col d ≡ tally_of (in_column col readings)
   pub light : AllByRecursion (λ reading. weighted reading ≤ 2 ^ 74) readings
+
+-- tallies of some readings, of which there may be one more
+abbrev pub MayCount : List Tally → Type 0
+MayCount tallies = (readings : List Repaired) × AreTallies readings tallies × (length readings < MOST_READINGS)

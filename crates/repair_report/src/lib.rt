@@ -5,6 +5,7 @@
 #![tactic(auto)]
 
 mod columns;
+mod comparison;
 mod cycle;
 mod lines;
 mod prices;

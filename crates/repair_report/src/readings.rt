@@ -1,22 +1,16 @@
 //! The readings of a table, one by one, with the values of a series.
-ghost use Rattle.std.specs.Prelude.{◌≡◌, ◌++◌, ◌<◌, ◌≤◌, ◌^◌, Some, List, ◌∷◌, [], filter, length, map, slice_get, OnOk};
+ghost use Rattle.std.specs.Prelude.{◌≡◌, ◌<◌, ◌≤◌, ◌^◌, Some, length, slice_get};
 ghost use Rattle.screen_model.specs.declared.limits.TheConstants.{MOST_COLUMNS};
-ghost use Rattle.cert_format.specs.Words.{text_of_lines};
 ghost use Rattle.series_csv.specs.Readings.{places, values};
 ghost use Rattle.bound_maker.specs.Costs.{weights};
-ghost use Rattle.repair_report.specs.declared.reading.Repaired.{Repaired};
-ghost use Rattle.repair_report.specs.Lines.{change_line};
-ghost use Rattle.repair_report.specs.Readings.{is_changed, weighted};
+ghost use Rattle.repair_report.specs.Readings.{weighted};
 ghost use Rattle.repair_report.specs.Repairs.{repaired};
-ghost use Rattle.repair_report.specs.RepairLines.{change_lines};
 
-use crate::lines::push_change;
-use crate::reading::{Repaired, is_changed};
+use crate::reading::Repaired;
 use bound_maker::{names_can_be_written, problem_is_sound};
 use rule_file::Rules;
 use screen_model::{Place, Series};
 use series_csv::Table;
-use std::alloc::AllocError;
 
 /// The place of the reading with this number, counted from 0.
 fn place_at(table: &Table, rules: &Rules, i: u32) -> Place
@@ -83,35 +77,4 @@ pub(crate) fn repaired_at(
     let from = value_at(table.series(), i);
     let to = value_at(series, i);
     light_reading(place, weight, from, to)
-}
-
-/// Adds the line of a reading, if it changed.
-fn push_if_changed(text: &mut Vec<u8>, decimals: u32, reading: Repaired) -> Result<(), AllocError>
-    requires { decimals ≤ 6 }
-    ensures { OnOk result (text.new.items ≡ text.old.items ++ text_of_lines (map (change_line decimals) (filter is_changed (reading ∷ [])))) }
-{
-    if is_changed(reading) {
-        push_change(text, decimals, reading)
-    } else {
-        Ok(())
-    }
-}
-
-/// Adds the line of each reading that changed.
-pub(crate) fn push_changes(
-    text: &mut Vec<u8>,
-    table: &Table,
-    rules: &Rules,
-    series: &Series,
-    weighed: &[u32],
-) -> Result<(), AllocError>
-    requires weighed { weighed.now ≡ weights rules.now table.now }
-    requires whole { length series.now ≡ length (values table.now) }
-    ensures { OnOk result (text.new.items ≡ text.old.items ++ text_of_lines (change_lines rules.now table.now series.now)) }
-{
-    for i in 0..table.len() {
-        let reading = repaired_at(table, rules, series, weighed, i);
-        push_if_changed(text, rules.format.decimals, reading)?;
-    }
-    Ok(())
 }

@@ -1,26 +1,28 @@
 //! The text of a report.
-ghost use Rattle.std.specs.Prelude.{◌≡◌, ◌==◌, ◌++◌, ◌∷◌, [], ◌^◌, ◌≤◌, pos, codes, length, unsigned_abs, if◌then◌else◌, IfOk, OnOk};
+ghost use Rattle.std.specs.Prelude.{◌≡◌, ◌==◌, ◌++◌, ◌∷◌, [], ◌^◌, ◌≤◌, pos, codes, filter, length, map, unsigned_abs, if◌then◌else◌, IfOk, OnOk};
 ghost use Rattle.screen_model.specs.Cost.{cost, paid};
 ghost use Rattle.screen_model.specs.Obeys.{Obeys};
 ghost use Rattle.cert_format.specs.Words.{text_of_lines};
-ghost use Rattle.series_csv.specs.Readings.{places, values};
+ghost use Rattle.series_csv.specs.Readings.{places};
 ghost use Rattle.bound_maker.specs.Bounds.{made_bounds};
-ghost use Rattle.bound_maker.specs.Costs.{weights, whole_problem};
+ghost use Rattle.bound_maker.specs.Costs.{whole_problem};
 ghost use Rattle.bound_maker.specs.declared.maker.TheConstants.{MOST_BOUNDS};
 ghost use Rattle.cert_check.specs.Laws.{IsTrueClaim, IsTrueRepair};
-ghost use Rattle.repair_report.specs.Lines.{value_line};
+ghost use Rattle.repair_report.specs.Lines.{change_line, value_line};
+ghost use Rattle.repair_report.specs.Readings.{is_changed};
 ghost use Rattle.repair_report.specs.Repairs.{priced_rules, repaired};
 ghost use Rattle.repair_report.specs.RepairLines.{change_lines, column_lines, flow_lines, repair_lines, rule_lines, total_lines};
 ghost use Rattle.repair_report.specs.Report.{report_text};
 ghost use Rattle.repair_report.specs.Tallies.{AreTallies};
 
 use crate::columns::push_columns;
+use crate::comparison::compare;
 use crate::cycle::push_cycle;
-use crate::lines::push_value_line;
+use crate::lines::{push_change, push_value_line};
 use crate::prices::{priced_rules, push_rules};
-use crate::readings::push_changes;
-use crate::tally::{Tally, tallies_of};
-use bound_maker::{best_over_made, problem_is_sound, weights_of};
+use crate::reading::Repaired;
+use crate::tally::Tally;
+use bound_maker::{best_over_made, problem_is_sound};
 use cert_check::Accepted;
 use cert_format::{Line, push_line};
 use rule_file::Rules;
@@ -78,20 +80,28 @@ fn sums_fit(table: &Table, rules: &Rules, series: &Series, tallies: &[Tally])
     let _tallies = tallies;
 }
 
-/// Adds the line of each reading that changed, and those of the flow.
+/// Adds the line of each of these readings, which changed.
+fn push_changes(text: &mut Vec<u8>, decimals: u32, changes: &[Repaired]) -> Result<(), AllocError>
+    requires { decimals ≤ 6 }
+    ensures { OnOk result (text.new.items ≡ text.old.items ++ text_of_lines (map (change_line decimals) changes.now)) }
+{
+    for reading in changes {
+        push_change(text, decimals, *reading)?;
+    }
+    Ok(())
+}
+
+/// Adds the line of each of these readings, which changed, and those of the flow.
 fn push_lists(
     text: &mut Vec<u8>,
-    table: &Table,
-    rules: &Rules,
-    series: &Series,
-    weighed: &[u32],
+    decimals: u32,
+    changes: &[Repaired],
     flow: &[FlowItem],
 ) -> Result<(), AllocError>
-    requires weighed { weighed.now ≡ weights rules.now table.now }
-    requires whole { length series.now ≡ length (values table.now) }
-    ensures { OnOk result (text.new.items ≡ text.old.items ++ text_of_lines (change_lines rules.now table.now series.now ++ flow_lines flow.now)) }
+    requires { decimals ≤ 6 }
+    ensures { OnOk result (text.new.items ≡ text.old.items ++ text_of_lines (map (change_line decimals) changes.now ++ flow_lines flow.now)) }
 {
-    push_changes(text, table, rules, series, weighed)?;
+    push_changes(text, decimals, changes)?;
     push_flow(text, flow)
 }
 
@@ -102,19 +112,18 @@ fn push_after_columns(
     table: &Table,
     rules: &Rules,
     series: &Series,
-    weighed: &[u32],
+    changes: &[Repaired],
     flow: &[FlowItem],
     priced: &[u32],
 ) -> Result<(), AllocError>
-    requires weighed { weighed.now ≡ weights rules.now table.now }
+    requires changed { changes.now ≡ filter is_changed (repaired rules.now table.now series.now) }
     requires priced { priced.now ≡ priced_rules rules.now }
     requires few { length (made_bounds rules.now table.now) ≤ MOST_BOUNDS }
     requires obeys { Obeys (places table.now) series.now (whole_problem rules.now table.now).bounds }
-    requires whole { length series.now ≡ length (values table.now) }
     ensures { OnOk result (text.new.items ≡ text.old.items ++ text_of_lines (rule_lines rules.now table.now series.now ++ (change_lines rules.now table.now series.now ++ flow_lines flow.now))) }
 {
     push_rules(alloc, text, table, rules, series, priced)?;
-    push_lists(text, table, rules, series, weighed, flow)
+    push_lists(text, rules.format.decimals, changes, flow)
 }
 
 /// Adds what a series costs and pays, and the table of columns.
@@ -124,23 +133,21 @@ fn push_sums(
     table: &Table,
     rules: &Rules,
     series: &Series,
-    weighed: &[u32],
+    tallies: &[Tally],
     costs: (i128, i128),
     priced: &[u32],
 ) -> Result<(), AllocError>
-    requires weighed { weighed.now ≡ weights rules.now table.now }
+    requires counted { AreTallies (repaired rules.now table.now series.now) tallies.now }
     requires few { length (made_bounds rules.now table.now) ≤ MOST_BOUNDS }
     requires obeys { Obeys (places table.now) series.now (whole_problem rules.now table.now).bounds }
-    requires whole { length series.now ≡ length (values table.now) }
     requires total { costs.0 ≡ pos (cost (whole_problem rules.now table.now) series.now) }
     requires paid { costs.1 ≡ pos (paid (whole_problem rules.now table.now) series.now) }
     requires priced { priced.now ≡ priced_rules rules.now }
     ensures { OnOk result (text.new.items ≡ text.old.items ++ text_of_lines (total_lines rules.now table.now series.now ++ column_lines rules.now table.now series.now)) }
 {
-    let tallies = tallies_of(alloc, table, rules, series, weighed)?;
-    sums_fit(table, rules, series, &tallies);
+    sums_fit(table, rules, series, tallies);
     push_totals(text, rules.format.decimals, costs, priced)?;
-    push_columns(alloc, text, table, rules, series, &tallies)
+    push_columns(alloc, text, table, rules, series, tallies)
 }
 
 /// Adds the report of a repair.
@@ -159,7 +166,7 @@ fn push_repair(
 {
     // There are as many places as readings.
     let _places = table.places();
-    let weighed = weights_of(alloc, table, rules)?;
+    let comparison = compare(alloc, table, rules, series)?;
     let priced = priced_rules(alloc, rules)?;
     push_sums(
         alloc,
@@ -167,7 +174,7 @@ fn push_repair(
         table,
         rules,
         series,
-        &weighed,
+        comparison.tallies.as_slice(),
         costs,
         priced.as_slice(),
     )?;
@@ -177,7 +184,7 @@ fn push_repair(
         table,
         rules,
         series,
-        &weighed,
+        comparison.changes.as_slice(),
         flow,
         priced.as_slice(),
     )

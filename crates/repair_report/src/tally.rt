@@ -1,17 +1,12 @@
 //! What a report tells of the readings of each column.
-ghost use Rattle.std.specs.Prelude.{◌≡◌, ◌+◌, ◌*◌, ◌^◌, ◌<◌, ◌≤◌, [], length, take, IfOk};
-ghost use Rattle.screen_model.specs.declared.limits.TheConstants.{MOST_READINGS};
-ghost use Rattle.series_csv.specs.Readings.{values};
-ghost use Rattle.bound_maker.specs.Costs.{weights};
+ghost use Rattle.std.specs.Prelude.{◌≡◌, ◌*◌, ◌^◌, ◌<◌, ◌≤◌, List, [], ◌∷◌, ◌++◌, IfOk};
+ghost use Rattle.screen_model.specs.declared.limits.TheConstants.{MOST_COLUMNS, MOST_READINGS};
+ghost use Rattle.repair_report.specs.declared.reading.Repaired.{Repaired};
 ghost use Rattle.repair_report.specs.Readings.{weighted};
-ghost use Rattle.repair_report.specs.Repairs.{repaired};
-ghost use Rattle.repair_report.specs.Tallies.{AreTallies, with_reading};
+ghost use Rattle.repair_report.specs.Tallies.{AreTallies, MayCount, with_reading};
 
 use crate::reading::{Repaired, is_changed, weighted};
-use crate::readings::repaired_at;
-use rule_file::Rules;
-use screen_model::{MOST_COLUMNS, Series};
-use series_csv::Table;
+use screen_model::MOST_COLUMNS;
 use std::alloc::{AllocError, Global};
 
 /// What a report tells of readings.
@@ -54,42 +49,13 @@ pub(crate) fn no_tallies(alloc: Global) -> Result<Vec<Tally>, AllocError>
     vec![in alloc; NONE; MOST_COLUMNS as usize + 1]
 }
 
-/// Counts the reading with this number in its column.
-fn count(
-    tallies: &mut Vec<Tally>,
-    table: &Table,
-    rules: &Rules,
-    series: &Series,
-    weighed: &[u32],
-    i: u32,
-)
-    requires weighed { weighed.now ≡ weights rules.now table.now }
-    requires few { length (values table.now) ≤ MOST_READINGS }
-    requires within { i < length (values table.now) }
-    requires whole { length series.now ≡ length (values table.now) }
-    requires counted { AreTallies (take i (repaired rules.now table.now series.now)) tallies.old.items }
-    ensures { AreTallies (take (i + 1) (repaired rules.now table.now series.now)) tallies.new.items }
+/// Counts a reading in its column.
+pub(crate) fn count(tallies: &mut Vec<Tally>, reading: Repaired)
+    requires column { reading.place.col ≤ MOST_COLUMNS }
+    requires light { weighted reading ≤ 2 ^ 74 }
+    requires more { MayCount tallies.old.items }
+    ensures { (readings : List Repaired) → AreTallies readings tallies.old.items → AreTallies (readings ++ reading ∷ []) tallies.new.items }
 {
-    let reading = repaired_at(table, rules, series, weighed, i);
     let col = reading.place.col as usize;
     tallies[col] = with_reading(tallies[col], reading);
-}
-
-/// The tally of each column. The list has the weights of all readings.
-pub(crate) fn tallies_of(
-    alloc: Global,
-    table: &Table,
-    rules: &Rules,
-    series: &Series,
-    weighed: &[u32],
-) -> Result<Vec<Tally>, AllocError>
-    requires weighed { weighed.now ≡ weights rules.now table.now }
-    requires whole { length series.now ≡ length (values table.now) }
-    ensures { IfOk result (λ tallies. AreTallies (repaired rules.now table.now series.now) tallies.items) }
-{
-    let mut tallies = no_tallies(alloc)?;
-    for i in 0..table.len() {
-        count(&mut tallies, table, rules, series, weighed, i);
-    }
-    Ok(tallies)
 }

@@ -4,11 +4,11 @@ use Rattle.repair_report.specs.RepairLines.{change_lines, column_lines, flow_lin
 use Rattle.repair_report.proofs.Joined.{lines_joined, on_ok}
 use Rattle.repair_report.proofs.report.push_repair.Goals as goal
 
+pub compare-requires : goal.compare-requires
+compare-requires c = c.requires.repair.best.best.whole ∙ c.places-places.ensures.len
+
 pub push_sums-requires-clause-obeys : goal.push_sums-requires-clause-obeys
 push_sums-requires-clause-obeys c = c.requires.repair.best.best.obeys
-
-pub push_sums-requires-clause-whole : goal.push_sums-requires-clause-whole
-push_sums-requires-clause-whole c = c.requires.repair.best.best.whole ∙ c.places-places.ensures.len
 
 pub push_sums-requires-clause-total : goal.push_sums-requires-clause-total
 push_sums-requires-clause-total c = c.requires.repair.total_is
@@ -18,9 +18,6 @@ push_sums-requires-clause-paid c = c.requires.repair.paid_is
 
 pub push_after_columns-requires-clause-obeys : goal.push_after_columns-requires-clause-obeys
 push_after_columns-requires-clause-obeys c = c.requires.repair.best.best.obeys
-
-pub push_after_columns-requires-clause-whole : goal.push_after_columns-requires-clause-whole
-push_after_columns-requires-clause-whole c = c.requires.repair.best.best.whole ∙ c.places-places.ensures.len
 
 pub returns : goal.returns
 returns c =
