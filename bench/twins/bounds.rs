@@ -9,7 +9,7 @@ mod rows;
 
 use cutter::Fields;
 use maker::{Bound, Rate, Rules, SECOND, Side, SpeedRule, SwingRule, first_broken, make};
-use rows::{Few, Header, Reading, Row, Table};
+use rows::{Few, FileSize, Header, Reading, Row, Table};
 use std::time::Instant;
 
 const ROWS: u32 = 200_000;
@@ -18,7 +18,7 @@ const ROWS: u32 = 200_000;
 fn table() -> Table {
     let fields = Fields { bytes: b"timea".to_vec(), ends: vec![4, 5] };
     let header = Header { fields, time_col: 1, sensor_cols: vec![2], from_left: vec![2] };
-    let mut table = Table { header, rows: Vec::new(), places: Vec::new(), values: Vec::new(), starts: Vec::new() };
+    let mut table = Table::with_room(header, FileSize::of(&[]));
     let mut state: u64 = 1;
     for row in 0..ROWS {
         state = (state * 1_103_515_245 + 12_345) % (1 << 31);

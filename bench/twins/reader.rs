@@ -4,7 +4,7 @@
 use crate::cutter::{Cutter, Fault, Fields};
 use crate::number::{Extra, NumFault, scaled, units};
 use crate::number_text::push_text_of;
-use crate::rows::{Few, Header, Reading, Row, Table};
+use crate::rows::{Few, FileSize, Header, Reading, Row, Table};
 
 pub const SEP: u8 = b',';
 const MOST_COLUMNS: u32 = 256;
@@ -183,6 +183,7 @@ pub fn read_row(
 }
 
 pub fn read_table(bytes: &[u8], form: &Form) -> Result<Table, TableFault> {
+    let size = FileSize::of(bytes);
     let mut cutter = Cutter::new(SEP);
     let mut table = None;
     let mut rest = bytes;
@@ -190,13 +191,13 @@ pub fn read_table(bytes: &[u8], form: &Form) -> Result<Table, TableFault> {
         let taken = cutter.feed_slice(rest);
         rest = &rest[taken.count..];
         match taken.answer {
-            Ok(Some(fields)) => take(&mut table, fields, form)?,
+            Ok(Some(fields)) => take(&mut table, fields, form, size)?,
             Ok(None) => {}
             Err(fault) => return Err(uncut(fault, &table)),
         }
     }
     match cutter.finish() {
-        Ok(Some(fields)) => take(&mut table, fields, form)?,
+        Ok(Some(fields)) => take(&mut table, fields, form, size)?,
         Ok(None) => {}
         Err(fault) => return Err(uncut(fault, &table)),
     }
@@ -209,11 +210,11 @@ fn uncut(fault: Fault, table: &Option<Table>) -> TableFault {
     TableFault::at(number, 0, Cause::Cut(fault))
 }
 
-fn take(table: &mut Option<Table>, fields: Fields, form: &Form) -> Result<(), TableFault> {
+fn take(table: &mut Option<Table>, fields: Fields, form: &Form, size: FileSize) -> Result<(), TableFault> {
     match table {
         None => {
             let header = read_header(fields, form)?;
-            *table = Some(Table { header, rows: Vec::new(), places: Vec::new(), values: Vec::new(), starts: Vec::new() });
+            *table = Some(Table::with_room(header, size));
         }
         Some(table) => {
             let ticks = table.rows.last().map(|row| row.ticks);
@@ -262,11 +263,7 @@ pub fn push_row(text: &mut Vec<u8>, form: &Form, fields: &Fields, readings: &[Re
 }
 
 pub fn table_text(table: &Table, form: &Form, series: &[i64]) -> Vec<u8> {
-    let mut room = table.header.fields.bytes.len() + table.header.fields.ends.len();
-    for row in &table.rows {
-        room += row.fields.bytes.len() + row.fields.ends.len();
-    }
-    let mut text = Vec::with_capacity(room);
+    let mut text = Vec::with_capacity(table.size.text_room(table.values.len()));
     push_row(&mut text, form, &table.header.fields, &[], &[]);
     let mut rest = series;
     for row in &table.rows {

@@ -68,15 +68,63 @@ pub struct Place {
     pub col: u32,
 }
 
+/// The size of a readings file: its bytes, and those of them that are line feeds.
+#[derive(Clone, Copy)]
+pub struct FileSize {
+    bytes: usize,
+    line_feeds: usize,
+}
+
+impl FileSize {
+    pub fn of(bytes: &[u8]) -> FileSize {
+        let mut line_feeds = 0;
+        for piece in bytes.chunks(192) {
+            let mut count = 0u8;
+            for byte in piece {
+                count += u8::from(*byte == b'\n');
+            }
+            line_feeds += usize::from(count);
+        }
+        FileSize { bytes: bytes.len(), line_feeds }
+    }
+
+    pub fn row_room(self) -> usize {
+        self.line_feeds.min(self.bytes / 2).min(200_000)
+    }
+
+    pub fn reading_room(self, columns: usize) -> usize {
+        self.row_room().saturating_mul(columns).min(self.bytes / 2).min(400_000)
+    }
+
+    pub fn text_room(self, readings: usize) -> usize {
+        readings.saturating_mul(18).saturating_add(self.bytes).saturating_add(1)
+    }
+}
+
 pub struct Table {
     pub header: Header,
     pub rows: Vec<Row>,
     pub places: Vec<Place>,
     pub values: Vec<i64>,
     pub starts: Vec<u32>,
+    pub size: FileSize,
 }
 
 impl Table {
+    /// No row, with room for those of a file of that size.
+    pub fn with_room(header: Header, size: FileSize) -> Table {
+        let rows = size.row_room();
+        let readings = size.reading_room(header.from_left.len());
+        Table {
+            header,
+            rows: Vec::with_capacity(rows),
+            places: Vec::with_capacity(readings),
+            values: Vec::with_capacity(readings),
+            starts: Vec::with_capacity(rows),
+            size,
+        }
+    }
+
     pub fn push(&mut self, row: Row) {
         let number = self.rows.len() as u32 + 1;
         self.starts.push(self.values.len() as u32);

@@ -3,6 +3,7 @@
 #![tactic(auto)]
 
 mod event;
+mod file_size;
 mod laws;
 mod progress;
 mod reader;

@@ -24,7 +24,8 @@ pub(crate) struct Rows {
 }
 
 impl Rows {
-    ghost use Rattle.std.specs.Prelude.{◌≡◌, ◌≤◌, [], ◌∷◌, ◌++◌, length, OnOk, MatchOption, Contains, slice_get, Some};
+    ghost use Rattle.std.specs.Prelude.{◌≡◌, ◌≤◌, [], ◌∷◌, ◌++◌, length, IfOk, OnOk, MatchOption, Contains, slice_get, Some};
+    ghost use Rattle.series_csv.specs.declared.rows.Rows.{Rows};
     ghost use Rattle.std.specs.List.{AllByRecursion};
     ghost use Rattle.screen_model.specs.declared.limits.TheConstants.{MOST_ROWS, MOST_READINGS};
     ghost use Rattle.series_csv.specs.Readings.{places_from, values_of, IsSmall, TimesRise};
@@ -41,6 +42,36 @@ impl Rows {
             values: Series::new(alloc),
             starts: Sequence::new(alloc),
         }
+    }
+
+    /// No row, with room for so many rows and readings.
+    fn with_room(alloc: Global, rows: usize, readings: usize) -> Result<Rows, AllocError>
+        ensures rows { IfOk result (λ (made : Rows). made.rows ≡ []) }
+        ensures indexed { IfOk result AreIndexed }
+    {
+        Ok(Rows {
+            rows: Sequence::with_capacity(alloc, rows)?,
+            places: Places::with_capacity(alloc, readings)?,
+            values: Series::with_capacity(alloc, readings)?,
+            starts: Sequence::with_capacity(alloc, rows)?,
+        })
+    }
+
+    /// Takes room for so many rows and readings at once, where there is no row yet.
+    pub(crate) fn take_room(
+        &mut self,
+        alloc: Global,
+        rows: usize,
+        readings: usize,
+    ) -> Result<(), AllocError>
+        requires { AreIndexed self.old }
+        ensures rows { OnOk result (self.new.rows ≡ self.old.rows) }
+        ensures indexed { OnOk result (AreIndexed self.new) }
+    {
+        if self.rows.is_empty() {
+            *self = Rows::with_room(alloc, rows, readings)?;
+        }
+        Ok(())
     }
 
     /// Adds a row at the end. Where memory runs out the places and the values may no longer be those of the rows.

@@ -1,5 +1,6 @@
 //! A readings file as a whole table.
 
+use crate::file_size::FileSize;
 use crate::rows::Rows;
 use screen_model::{Place, Places, Series};
 use series_rows::{Header, Row};
@@ -13,6 +14,8 @@ pub const LONGEST: usize = 268_435_456;
 pub struct Table {
     header: Header,
     rows: Rows,
+    /// The size of the file.
+    size: FileSize,
 }
 
 impl Model for Table {
@@ -35,12 +38,17 @@ impl Table {
     ghost use Rattle.series_csv.specs.Indexed.{AreIndexed};
     ghost use Rattle.series_csv.specs.Readings.{row_at, places, values, IsSmall, AreInOrder, TimesRise};
 
-    /// The table of a header and rows.
-    pub(crate) fn new(header: Header, rows: Rows) -> Table
+    /// The table of a header and rows, which were read of a file of that size.
+    pub(crate) fn new(header: Header, rows: Rows, size: FileSize) -> Table
         requires { AreIndexed rows }
         ensures { result ≡ record { header = header; rows = rows.rows } }
     {
-        Table { header, rows }
+        Table { header, rows, size }
+    }
+
+    /// Room for its text with any values.
+    pub(crate) fn text_room(&self) -> usize {
+        self.size.text_room(self.rows.values.len())
     }
 
     /// The header.

@@ -6,13 +6,14 @@ ghost use Rattle.series_rows.specs.declared.fault.TableFault.{TableFault};
 ghost use Rattle.series_csv.specs.File.{TableView, ReadsShort, ReadsTable, Spells, Refuses};
 
 use crate::event::Event;
+use crate::file_size::FileSize;
 use crate::laws::{one_answer, read_stays};
 use crate::reader::RowReader;
 use crate::rows::Rows;
 use crate::table::{LONGEST, Table};
 use rule_file::Rules;
 use series_rows::{Header, Limits, TableCause, TableFault};
-use std::alloc::Global;
+use std::alloc::{AllocError, Global};
 
 /// The table of a readings file, or the first reason to refuse it.
 ///
@@ -39,7 +40,7 @@ pub fn read_table(alloc: Global, rules: &Rules, bytes: &[u8]) -> Result<Table, T
 fn read_short(alloc: Global, rules: &Rules, bytes: &[u8]) -> Result<Table, TableFault>
     ensures { UnlessMemory of_memory (ReadsShort rules.now bytes.now) result }
 {
-    let mut reading = TableReader::new(alloc, rules);
+    let mut reading = TableReader::new(alloc, rules, FileSize::of(bytes));
     let mut rest = bytes;
     while !rest.is_empty() {
         let count = reading.feed(rest)?;
@@ -51,6 +52,9 @@ fn read_short(alloc: Global, rules: &Rules, bytes: &[u8]) -> Result<Table, Table
 /// The header and the rows of a table that is being read.
 #[derive(Drop)]
 struct Draft {
+    alloc: Global,
+    /// The size of the file.
+    size: FileSize,
     header: Option<Header>,
     rows: Rows,
 }
@@ -71,15 +75,30 @@ impl Draft {
         ensures err { IfErr result (λ fault. fault ≡ of_memory) }
     {
         match event {
-            Event::Header(header) => {
-                self.header = Some(header);
-                Ok(())
-            }
+            Event::Header(header) => match self.take_header(header) {
+                Ok(()) => Ok(()),
+                Err(_) => Err(TableFault::of_the_file(TableCause::Memory)),
+            },
             Event::Row(row) => match self.rows.push(row) {
                 Ok(()) => Ok(()),
                 Err(_) => Err(TableFault::of_the_file(TableCause::Memory)),
             },
         }
+    }
+
+    /// Adds the header, and takes room for as many rows and readings as the file may have.
+    fn take_header(&mut self, header: Header) -> Result<(), AllocError>
+        requires { AreIndexed self.old.rows }
+        ensures header { OnOk result (self.new.header ≡ Some header) }
+        ensures rows { OnOk result (self.new.rows.rows ≡ self.old.rows.rows) }
+        ensures indexed { OnOk result (AreIndexed self.new.rows) }
+    {
+        let columns = header.sensor_columns().len();
+        let rows = self.size.row_room();
+        let readings = self.size.reading_room(columns);
+        self.rows.take_room(self.alloc, rows, readings)?;
+        self.header = Some(header);
+        Ok(())
     }
 
     /// The table, of which the header was read.
@@ -89,7 +108,7 @@ impl Draft {
         ensures rows { result.rows ≡ self.rows.rows }
         ensures header { self.header ≡ Some result.header }
     {
-        Table::new(self.header.unwrap(), self.rows)
+        Table::new(self.header.unwrap(), self.rows, self.size)
     }
 }
 
@@ -108,13 +127,15 @@ impl<'a> TableReader<'a> {
     ghost use Rattle.series_csv.specs.File.{ReadsShort};
     ghost use Rattle.series_csv.specs.Whole.{IsReading, IsReadingSome, IsFed};
 
-    /// Nothing was read.
-    fn new(alloc: Global, rules: &'a Rules) -> TableReader<'a>
+    /// Nothing was read of a file of that size.
+    fn new(alloc: Global, rules: &'a Rules, size: FileSize) -> TableReader<'a>
         ensures { IsReading result rules.now [] }
     {
         TableReader {
             reader: RowReader::new(alloc, rules, Limits::Whole),
             draft: Draft {
+                alloc,
+                size,
                 header: None,
                 rows: Rows::new(alloc),
             },

@@ -6,7 +6,6 @@ ghost use Rattle.series_csv.specs.Readings.{values_of, IsSmall};
 ghost use Rattle.series_csv.specs.Text.{rows_text, table_text};
 
 use crate::table::Table;
-use record_cut::Fields;
 use rule_file::Rules;
 use screen_model::Series;
 use series_rows::{Row, push_header, push_row_with};
@@ -23,7 +22,7 @@ pub fn table_text(
     requires { IsSeriesOf table.now series.now }
     ensures { IfOk result (λ text. text.items ≡ table_text rules.now table.now series.now) }
 {
-    let mut text = Vec::with_capacity(alloc, room_for(table))?;
+    let mut text = Vec::with_capacity(alloc, table.text_room())?;
     push_header(&mut text, rules, table.header())?;
     push_rows(&mut text, rules, table.all_rows(), series.as_slice())?;
     Ok(text)
@@ -47,24 +46,4 @@ fn push_rows(
         rest = later;
     }
     Ok(())
-}
-
-/// About how many bytes the text of a table has.
-fn room_for(table: &Table) -> usize {
-    let mut room = size_of_text(table.header().fields());
-    for row in table.all_rows() {
-        room = room.saturating_add(size_of_text(row.fields()));
-    }
-    room
-}
-
-/// How many bytes a row has, where none of its fields is in quotes.
-fn size_of_text(fields: &Fields) -> usize {
-    let mut size = 0usize;
-    for i in 0..fields.width() {
-        if let Some(field) = fields.field(i) {
-            size = size.saturating_add(field.len()).saturating_add(1);
-        }
-    }
-    size
 }

@@ -2,6 +2,8 @@
 #![tactic(auto)]
 
 #[cfg(test)]
+mod room_tests;
+#[cfg(test)]
 mod row_reader_tests;
 #[cfg(test)]
 mod series_csv_tests;
