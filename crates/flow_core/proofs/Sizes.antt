@@ -11,10 +11,10 @@ use Rattle.words.specs.Lists.{inner_product}
 use Rattle.words.proofs.Lists.{all_append, all_map, all_weaker, all_zip_long}
 use Rattle.words.proofs.Products.{size_of_product, size_of_minus, size_within, within_size}
 use Rattle.bound_graph.specs.declared.arc.Arc.{Arc}
-use Rattle.bound_graph.specs.Arcs.{IsArc}
+use Rattle.bound_graph.specs.Arcs.{IsArc, no_arc}
 use Rattle.bound_graph.specs.Values.{value_of}
 use Rattle.flow_core.specs.declared.limits.TheConstants.{MOST_VALUE}
-use Rattle.flow_core.specs.Layout.{FlowNetwork, IsLayout, nodes_of, reading_arcs, arcs_of, arc_numbered, no_arc, twice, unpriced_capacity, capacity_at_price, capacities_of, capacity_numbered}
+use Rattle.flow_core.specs.Layout.{FlowNetwork, IsLayout, nodes_of, reading_arcs, arcs_of, arc_numbered, twice, unpriced_capacity, capacity_at_price, capacities_of, capacity_numbered}
 use Rattle.flow_core.specs.State.{NetworkState, IsNetwork, IsWithin, one_if, unit_balance, flow_on}
 use Rattle.flow_core.proofs.Elements.{zip_at, zip_right, length-twice, all_twice, twice_at}
 
