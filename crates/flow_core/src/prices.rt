@@ -63,13 +63,7 @@ impl Prices {
         ensures { result ≡ slice_get self.now bound }
     {
         match &self.kept {
-            Kept::Count(count) => {
-                if bound < *count {
-                    Some(0)
-                } else {
-                    None
-                }
-            }
+            Kept::Count(count) => { if bound < *count { Some(0) } else { None } }
             Kept::Each(prices) => prices.get(bound as usize).copied(),
         }
     }
