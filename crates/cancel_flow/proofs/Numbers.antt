@@ -1,13 +1,13 @@
 -- The arc or reverse of a number, where it is residual.
-use Rattle.std.proofs.Common.{◌≡◌, ◌≢◌, ℕ, zero, suc, ◌+◌, ◌*◌, ◌/◌, ◌%◌, ◌<◌, ◌≤◌, Bool, true, false, cond, if◌then◌else◌, ℤ, pos, negsuc, ◌≤ℤ◌, List, length, get_or, Option, Some, None, refl, sym, ap, ◌∙◌, subst, ⊎_elim, arith}
+use Rattle.std.proofs.Common.{◌≡◌, ◌≢◌, ℕ, zero, suc, ◌+◌, ◌/◌, ◌<◌, ◌≤◌, Bool, true, false, cond, ℤ, pos, negsuc, ◌≤ℤ◌, List, length, get_or, Option, Some, None, refl, sym, ◌∙◌, subst, ⊎_elim, arith}
 use Rattle.std.specs.Int.{int_min, is_positive}
 use Rattle.std.proofs.lemmas.Int.{ints}
-use Rattle.std.proofs.lemmas.Bool.{eqb-true, eqb-false, cases_eq, cases_lt}
+use Rattle.std.proofs.lemmas.Bool.{cases_eq, cases_lt}
 use Rattle.bound_graph.specs.declared.arc.Arc.{Arc}
-use Rattle.bound_graph.specs.Arcs.{arc_at, no_arc}
-use Rattle.bound_graph.specs.Reverses.{reversed, is_back}
+use Rattle.bound_graph.specs.Arcs.{arc_at}
+use Rattle.bound_graph.specs.Reverses.{is_back}
 use Rattle.bound_graph.proofs.Reverses.{both_ways, none_past, some_within}
-use Rattle.flow_core.specs.Layout.{FlowNetwork, arcs_of, arc_numbered}
+use Rattle.flow_core.specs.Layout.{arcs_of}
 use Rattle.flow_core.specs.State.{NetworkState}
 use Rattle.flow_core.specs.Views.{arc_both_ways, is_residual, residual_arcs}
 use Rattle.flow_core.proofs.BothWays.{residual_at}

@@ -1,16 +1,10 @@
 -- Arcs both ways, by their numbers.
-use Rattle.std.proofs.Common.{◌≡◌, ℕ, zero, suc, ◌+◌, ◌*◌, ◌/◌, ◌%◌, ◌^◌, ◌<◌, ◌≤◌, Bool, true, false, cond, eqb, ◌&&◌, ◌||◌, ℤ, pos, ◌-ℤ◌, List, [], ◌∷◌, ◌++◌, length, map, get_or, take, Option, Some, None, refl, sym, ap, ◌∙◌, arith, zero-add, add-zero}
-use Rattle.std.specs.Prelude.{unsigned_abs}
-use Rattle.std.specs.List.{AllByRecursion}
+use Rattle.std.proofs.Common.{◌≡◌, ℕ, zero, suc, ◌+◌, ◌*◌, ◌/◌, ◌<◌, ◌≤◌, Bool, true, false, cond, eqb, ◌&&◌, ◌||◌, List, [], ◌∷◌, length, map, get_or, Option, Some, None, refl, sym, ap, ◌∙◌, arith, zero-add, add-zero}
 use Rattle.std.specs.Int.{is_positive}
 use Rattle.std.proofs.lemmas.Bool.{eqb-true, cond-true, cond-false}
-use Rattle.std.proofs.lemmas.List.{append_assoc, length-map, length-take-le, map-append, take_more, get_or_append_left, get_or_past}
-use Rattle.words.proofs.Products.{size_of_minus}
-use Rattle.screen_model.specs.declared.place.Place.{Place}
-use Rattle.screen_model.specs.declared.bound.Bound.{Bound}
+use Rattle.std.proofs.lemmas.List.{length-map, map-append, get_or_append_left}
 use Rattle.bound_graph.specs.declared.arc.Arc.{Arc}
-use Rattle.bound_graph.specs.Arcs.{IsArc, arc_at, no_arc}
-use Rattle.bound_graph.specs.Graph.{arcs_of_bounds}
+use Rattle.bound_graph.specs.Arcs.{arc_at, no_arc}
 use Rattle.bound_graph.specs.Reverses.{reversed, with_reverses, is_back}
 use Rattle.bound_graph.proofs.Reverses.{both_ways, with_reverses-append, length-with_reverses, half_more, back_more, half_even, half_odd, even_is_there, odd_is_back, none_past, arc_there, arc_back}
 use Rattle.flow_core.specs.Layout.{FlowNetwork, is_unpriced, reading_arcs, arcs_of}

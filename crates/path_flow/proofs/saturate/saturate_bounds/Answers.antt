@@ -5,7 +5,6 @@ use Rattle.path_flow.specs.Steps.{reduced_cost}
 use Rattle.path_flow.specs.Saturation.{IsSaturated}
 use Rattle.flow_core.specs.Layout.{FlowNetwork}
 use Rattle.flow_core.specs.State.{NetworkState}
-use Rattle.flow_core.proofs.Sizes.{length-arcs_of}
 use Rattle.path_flow.proofs.Saturating.{one_arc_more, free_cost, bound_counted, bound_units}
 use Rattle.path_flow.proofs.saturate.saturate_bounds.Goals as goal
 

@@ -1,4 +1,4 @@
-use Rattle.std.proofs.Common.{◌≡◌, ◌<◌, ◌≤◌, ◌-◌, ◌/◌, ℕ, pos, List, Some, None, eqb, length, get_or, sym, ap, ◌∙◌, subst, rules, arith, w64}
+use Rattle.std.proofs.Common.{◌≡◌, ◌<◌, ◌-◌, ◌/◌, ℕ, pos, List, Some, eqb, length, get_or, sym, ap, ◌∙◌, subst, rules, arith, w64}
 use Rattle.std.specs.Prelude.{FitsSigned, slice_get}
 use Rattle.std.proofs.lemmas.Bool.{cond-false, ne_eqb}
 use Rattle.std.proofs.lemmas.Int.{to_z-of_z}
