@@ -1,5 +1,5 @@
 //! The arcs of a graph by their numbers, each of them stored once.
-ghost use Rattle.std.specs.Prelude.{◌≡◌, ◌<◌, ◌*◌, ◌%◌, ◌==◌, ◌^◌, length, map, Some, get_or, unsigned_abs, ◌≤◌};
+ghost use Rattle.std.specs.Prelude.{◌≡◌, ◌<◌, ◌≤◌, ◌*◌, ◌^◌, length, map, Some, get_or, unsigned_abs};
 ghost use Rattle.bound_graph.specs.Arcs.{arc_at, no_arc};
 ghost use Rattle.bound_graph.specs.Numbered.{HaveCosts};
 ghost use Rattle.bound_graph.specs.Reverses.{turned, with_reverses};

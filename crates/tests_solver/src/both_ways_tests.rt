@@ -1,5 +1,5 @@
 //! Graphs of arcs both ways, beside graphs of the same arcs and reverses written out.
-ghost use Rattle.std.specs.Prelude.{◌≡◌, ◌<◌, ◌^◌, length, IfOk};
+ghost use Rattle.std.specs.Prelude.{◌≡◌, ◌<◌, IfOk};
 ghost use Rattle.std.specs.List.{AllByRecursion};
 ghost use Rattle.bound_graph.specs.Arcs.{IsArc};
 
