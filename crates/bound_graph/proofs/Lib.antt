@@ -5,5 +5,7 @@ pub mod Degrees
 pub mod Groups
 pub mod Leaving
 pub mod Nodes
+pub mod Reverses
 pub mod Rows
+pub mod Stored
 pub mod Values

@@ -1,6 +1,10 @@
 -- To be believed: numbered arcs, of which some may not be there now.
-use Rattle.std.specs.Prelude.{◌≡◌, ℕ, ◌*◌, ◌^◌, ◌<◌, ◌≤◌, List, Option, None, Some, get_or, unsigned_abs, IfSome}
+use Rattle.std.specs.Prelude.{◌≡◌, ℕ, pos, ◌*◌, ◌^◌, ◌<◌, ◌≤◌, List, Option, None, Some, get_or, unsigned_abs, IfSome}
 use Rattle.bound_graph.specs.declared.arc.Arc.{Arc}
+
+-- what is read where there is no arc
+abbrev pub no_arc : Arc
+no_arc = record { tail = 0; head = 0; cost = pos 0 }
 
 -- the arc of a number, if it is there
 abbrev pub arc_at : List (Option Arc) → ℕ → Option Arc

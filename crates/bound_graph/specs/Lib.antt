@@ -3,5 +3,7 @@ pub mod Cycle
 pub mod Graph
 pub mod Index
 pub mod Nodes
+pub mod Numbered
+pub mod Reverses
 pub mod Star
 pub mod Values

@@ -5,6 +5,7 @@ mod arc;
 mod graph;
 mod index;
 mod laws;
+mod numbered;
 mod star;
 mod table;
 

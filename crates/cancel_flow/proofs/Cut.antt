@@ -11,11 +11,12 @@ use Rattle.std.proofs.Math.IntN.{*ℤ-zero, *ℤ-one}
 use Rattle.words.specs.Lists.{inner_product}
 use Rattle.words.proofs.Products.{mul_sum, mul_minus, mul_swap}
 use Rattle.bound_graph.specs.declared.arc.Arc.{Arc}
-use Rattle.bound_graph.specs.Arcs.{IsArc}
+use Rattle.bound_graph.specs.Arcs.{IsArc, no_arc}
 use Rattle.bound_graph.specs.Values.{value_of, RespectsArc, RespectsArcs}
-use Rattle.flow_core.specs.Layout.{FlowNetwork, reading_arcs, arcs_of, arc_numbered, no_arc, nodes_of, twice, unpriced_capacity, capacity_at_price, capacity_numbered}
+use Rattle.bound_graph.specs.Reverses.{reversed}
+use Rattle.flow_core.specs.Layout.{FlowNetwork, reading_arcs, arcs_of, arc_numbered, nodes_of, twice, unpriced_capacity, capacity_at_price, capacity_numbered}
 use Rattle.flow_core.specs.State.{NetworkState, IsNetwork, IsWithin, one_if, unit_balance, balance, flow_on, residual_of}
-use Rattle.flow_core.specs.Views.{reversed, is_residual, is_bare, residual_arcs, tight_arcs, bare_arcs}
+use Rattle.flow_core.specs.Views.{is_residual, is_bare, residual_arcs, tight_arcs, bare_arcs}
 use Rattle.flow_core.proofs.Sizes.{length-arcs_of, length-flows, arcs_valid, capacity_of_bound, flow_within}
 use Rattle.flow_core.proofs.Readings.{inner_product-append, zip_split}
 use Rattle.flow_core.proofs.BothWays.{unpriced_below, there_by_arc, back_by_arc}

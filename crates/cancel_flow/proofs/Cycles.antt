@@ -8,9 +8,9 @@ use Rattle.bound_graph.specs.Arcs.{arc_at}
 use Rattle.bound_graph.specs.Cycle.{IsNegativeCycle}
 use Rattle.bound_graph.proofs.Cycles.{over, over-rotated}
 use Rattle.flow_core.specs.State.{NetworkState, one_if, unit_balance}
-use Rattle.flow_core.specs.Views.{residual_arcs}
+use Rattle.flow_core.specs.Views.{residual_arcs, arc_both_ways}
 use Rattle.cancel_flow.specs.Cycles.{HasRoom, HaveRoom}
-use Rattle.cancel_flow.proofs.Numbers.{arc_of, found}
+use Rattle.cancel_flow.proofs.Numbers.{found}
 use Rattle.cancel_flow.proofs.Views.{all_get}
 
 -- Residual arcs by their numbers, none of them twice, that enter each node as often as they leave it, and whose costs
@@ -18,13 +18,13 @@ use Rattle.cancel_flow.proofs.Views.{all_get}
 pub record IsResidualCycle (net : NetworkState) (numbers : List ℕ) : Type 0 where
   pub room : HaveRoom net (pos 1) numbers
   pub apart : (i j : ℕ) → i < j → j < length numbers → get_or numbers i 0 ≢ get_or numbers j 0
-  pub closed : (node : ℕ) → total (map (λ number. unit_balance node (arc_of net.network number)) numbers) ≡ pos 0
-  pub negative : total (map (λ number. (arc_of net.network number).cost) numbers) ≤ℤ negsuc 0
+  pub closed : (node : ℕ) → total (map (λ number. unit_balance node (arc_both_ways net.network number)) numbers) ≡ pos 0
+  pub negative : total (map (λ number. (arc_both_ways net.network number).cost) numbers) ≤ℤ negsuc 0
 
 -- each number has room, and its arc is the one in the cycle
 record AreFound (net : NetworkState) (numbers : List ℕ) (cycle : List Arc) : Type 0 where
   room : HaveRoom net (pos 1) numbers
-  are : map (arc_of net.network) numbers ≡ cycle
+  are : map (arc_both_ways net.network) numbers ≡ cycle
 
 first_or_later : (net : NetworkState) (number : ℕ) (numbers : List ℕ) → HasRoom net (pos 1) number → HaveRoom net (pos 1) numbers → HaveRoom net (pos 1) (number ∷ numbers)
 first_or_later net number numbers here rest zero below = here
@@ -41,7 +41,7 @@ all_found net (number ∷ numbers) (arc ∷ cycle) there =
     let rest = all_found net numbers cycle later in
     record {
       room = first_or_later net number numbers one.has rest.room;
-      are = (λ i. one.is i ∷ map (arc_of net.network) numbers) ∙ ap (λ (l : List Arc). arc ∷ l) rest.are;
+      are = (λ i. one.is i ∷ map (arc_both_ways net.network) numbers) ∙ ap (λ (l : List Arc). arc ∷ l) rest.are;
     }
 
 distinct_at : (xs : List ℕ) (i j : ℕ) → Distinct xs → i < j → j < length xs → get_or xs i 0 ≢ get_or xs j 0
@@ -74,7 +74,7 @@ pub residual_cycle : (net : NetworkState) (numbers : List ℕ) → IsNegativeCyc
 residual_cycle net numbers negative =
     let cycle = negative.cycle in
     let all = all_found net numbers cycle negative.there in
-    let of = arc_of net.network in
+    let of = arc_both_ways net.network in
     record {
       room = all.room;
       apart = λ i j less below. apart_by (λ number. (of number).tail) numbers i j (subst Distinct (sym (taken of (λ arc. arc.tail) numbers cycle all.are)) negative.simple) less below;

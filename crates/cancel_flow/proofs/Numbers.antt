@@ -1,19 +1,17 @@
 -- The arc or reverse of a number, where it is residual.
-use Rattle.std.proofs.Common.{◌≡◌, ◌≢◌, ℕ, zero, suc, ◌+◌, ◌*◌, ◌/◌, ◌%◌, ◌<◌, ◌≤◌, Bool, true, false, cond, if◌then◌else◌, ℤ, pos, negsuc, ◌≤ℤ◌, List, length, get_or, Option, Some, None, refl, sym, ap, ◌∙◌, subst, ⊎_elim, arith}
+use Rattle.std.proofs.Common.{◌≡◌, ◌≢◌, ℕ, zero, suc, ◌+◌, ◌/◌, ◌<◌, ◌≤◌, Bool, true, false, cond, ℤ, pos, negsuc, ◌≤ℤ◌, List, length, get_or, Option, Some, None, refl, sym, ◌∙◌, subst, ⊎_elim, arith}
 use Rattle.std.specs.Int.{int_min, is_positive}
 use Rattle.std.proofs.lemmas.Int.{ints}
-use Rattle.std.proofs.lemmas.Bool.{eqb-true, eqb-false, cases_eq, cases_lt}
+use Rattle.std.proofs.lemmas.Bool.{cases_eq, cases_lt}
 use Rattle.bound_graph.specs.declared.arc.Arc.{Arc}
 use Rattle.bound_graph.specs.Arcs.{arc_at}
-use Rattle.flow_core.specs.Layout.{FlowNetwork, arcs_of, arc_numbered, no_arc}
+use Rattle.bound_graph.specs.Reverses.{is_back}
+use Rattle.bound_graph.proofs.Reverses.{both_ways, none_past, some_within}
+use Rattle.flow_core.specs.Layout.{arcs_of}
 use Rattle.flow_core.specs.State.{NetworkState}
-use Rattle.flow_core.specs.Views.{reversed, is_residual, residual_arcs}
-use Rattle.flow_core.proofs.BothWays.{both_ways, none_past, arc_there, arc_back, residual_at}
-use Rattle.cancel_flow.specs.Cycles.{is_back, room_of, HasRoom, HaveRoom}
-
--- the arc or reverse of a number
-abbrev pub arc_of : FlowNetwork → ℕ → Arc
-arc_of network number = if is_back number then reversed (arc_numbered network (number / 2)) else arc_numbered network (number / 2)
+use Rattle.flow_core.specs.Views.{arc_both_ways, is_residual, residual_arcs}
+use Rattle.flow_core.proofs.BothWays.{residual_at}
+use Rattle.cancel_flow.specs.Cycles.{room_of, HasRoom, HaveRoom}
 
 pub above_zero : (z : ℤ) → is_positive z ≡ true → pos 1 ≤ℤ z
 above_zero (pos zero) test = absurd cc
@@ -24,16 +22,6 @@ cond_there : (b : Bool) (found : Option Arc) (arc : Arc) → cond b found None �
 cond_there true found arc e = (refl, e)
 cond_there false found arc e = absurd cc
 
--- by whether the number is odd
-by_parity : (arcs : List Arc) (number : ℕ) (b : Bool) → is_back number ≡ b → number / 2 < length arcs
-    → both_ways arcs number ≡ Some (cond b (reversed (get_or arcs (number / 2) no_arc)) (get_or arcs (number / 2) no_arc))
-by_parity arcs number true e below =
-    let odd : number ≡ 2 * (number / 2) + 1 = omega (arith, eqb-true (number % 2) 1 e) in
-    ap (both_ways arcs) odd ∙ arc_back arcs (number / 2) below
-by_parity arcs number false e below =
-    let even : number ≡ 2 * (number / 2) = omega (arith, eqb-false (number % 2) 1 e) in
-    ap (both_ways arcs) even ∙ arc_there arcs (number / 2) below
-
 below_if_there : (arcs : List Arc) (number : ℕ) (arc : Arc) → both_ways arcs number ≡ Some arc → number / 2 < length arcs
 below_if_there arcs number arc there = ⊎_elim
     (λ (below : number / 2 < length arcs). below)
@@ -43,14 +31,14 @@ below_if_there arcs number arc there = ⊎_elim
 -- a residual arc by its number
 pub record IsFound (net : NetworkState) (number : ℕ) (arc : Arc) : Type 0 where
   pub has : HasRoom net (pos 1) number
-  pub is : arc_of net.network number ≡ arc
+  pub is : arc_both_ways net.network number ≡ arc
 
 pub found : (net : NetworkState) (number : ℕ) (arc : Arc) → arc_at (residual_arcs net) number ≡ Some arc → IsFound net number arc
 found net number arc there =
     let arcs = arcs_of net.network in
     let parts = cond_there (is_residual net (number / 2) (is_back number)) (both_ways arcs number) arc (sym (residual_at net number) ∙ there) in
     let below = below_if_there arcs number arc parts.1 in
-    let by = by_parity arcs number (is_back number) refl below in
+    let by = some_within arcs number below in
     record {
       has = record { below = below; room = above_zero (room_of net number) parts.0 };
       is = let same = parts.1 in cc;

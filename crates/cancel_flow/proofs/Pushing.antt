@@ -11,13 +11,14 @@ use Rattle.words.proofs.InnerProducts.{inner_product-set}
 use Rattle.words.proofs.Products.{mul_sum, mul_minus, zero_minus_mul, within_size}
 use Rattle.bound_graph.specs.declared.arc.Arc.{Arc}
 use Rattle.bound_graph.specs.Values.{value_of}
-use Rattle.flow_core.specs.Layout.{FlowNetwork, arcs_of, arc_numbered, no_arc, nodes_of, capacity_numbered}
+use Rattle.bound_graph.specs.Arcs.{no_arc}
+use Rattle.bound_graph.specs.Reverses.{reversed, is_back}
+use Rattle.flow_core.specs.Layout.{FlowNetwork, arcs_of, arc_numbered, nodes_of, capacity_numbered}
 use Rattle.flow_core.specs.State.{NetworkState, IsNetwork, flow_on, added, rise_by, pushed, unit_balance, balance, value}
-use Rattle.flow_core.specs.Views.{reversed}
+use Rattle.flow_core.specs.Views.{arc_both_ways}
 use Rattle.flow_core.proofs.Sizes.{length-flows, costs_so_far_small, costs_of}
-use Rattle.cancel_flow.specs.Cycles.{is_back, room_of, HaveRoom}
+use Rattle.cancel_flow.specs.Cycles.{room_of, HaveRoom}
 use Rattle.cancel_flow.proofs.Cycles.{IsResidualCycle}
-use Rattle.cancel_flow.proofs.Numbers.{arc_of}
 
 -- of the reverse of an arc it is what it is of the arc, negated
 abbrev pub IsOdd : (Arc → ℤ) → Type 0
@@ -29,7 +30,7 @@ pub record IsPushedAlong (old new : NetworkState) (amount : ℤ) (numbers : List
   pub network : new.network ≡ old.network
   pub is : IsNetwork new
   pub sums : (f : Arc → ℤ) → IsOdd f → inner_product new.flows (map f (arcs_of old.network))
-      ≡ inner_product old.flows (map f (arcs_of old.network)) +ℤ (amount *ℤ total (map (λ number. f (arc_of old.network number)) numbers))
+      ≡ inner_product old.flows (map f (arcs_of old.network)) +ℤ (amount *ℤ total (map (λ number. f (arc_both_ways old.network number)) numbers))
 
 -- So much was pushed along the first arcs and reverses of a list, and each of the others has room for it.
 pub record IsPartway (old new : NetworkState) (amount : ℤ) (numbers : List ℕ) (count : ℕ) : Type 0 where
@@ -76,7 +77,7 @@ one_more old net new amount numbers i so_far within below is_pushed is =
       network = ap (λ (n : NetworkState). n.network) is_pushed ∙ same;
       is = is;
       sums = λ f odd.
-          let of : ℕ → ℤ = λ (n : ℕ). f (arc_of old.network n) in
+          let of : ℕ → ℤ = λ (n : ℕ). f (arc_both_ways old.network n) in
           let raised = sum_raised arcs f net.flows k (rise_by (is_back number) amount) flowing inside in
           let way = by_way f (arc_numbered old.network k) amount (is_back number) odd in
           let flows = ap (λ (n : NetworkState). inner_product n.flows (map f arcs)) is_pushed in
@@ -182,7 +183,7 @@ cycle_raises : (old new : NetworkState) (amount : ℤ) (numbers : List ℕ) → 
 cycle_raises old new amount numbers some all cycle =
     let sum = all.sums (λ arc. arc.cost) odd_costs in
     let arcs = ap (λ (n : FlowNetwork). inner_product new.flows (map (λ arc. arc.cost) (arcs_of n))) all.network in
-    omega (arith, ints, sum, arcs, product_negative amount (total (map (λ number. (arc_of old.network number).cost) numbers)) some cycle.negative)
+    omega (arith, ints, sum, arcs, product_negative amount (total (map (λ number. (arc_both_ways old.network number).cost) numbers)) some cycle.negative)
 
 take_all : {A : Type 0} (xs : List A) → take (length xs) xs ≡ xs
 take_all [] = refl

@@ -7,10 +7,12 @@ use Rattle.std.proofs.lemmas.List.{get_or_append_left}
 use Rattle.words.proofs.Products.{size_within}
 use Rattle.bound_graph.specs.declared.arc.Arc.{Arc}
 use Rattle.bound_graph.specs.Values.{value_of, RespectsArc, RespectsArcs}
+use Rattle.bound_graph.specs.Arcs.{no_arc}
+use Rattle.bound_graph.specs.Reverses.{reversed}
 use Rattle.flow_core.specs.declared.limits.TheConstants.{MOST_VALUE}
-use Rattle.flow_core.specs.Layout.{IsLayout, HasRange, HasUnpriced, no_arc, nodes_of, arcs_of, arc_numbered, reading_arcs}
+use Rattle.flow_core.specs.Layout.{IsLayout, HasRange, HasUnpriced, nodes_of, arcs_of, arc_numbered, reading_arcs}
 use Rattle.flow_core.specs.State.{NetworkState}
-use Rattle.flow_core.specs.Views.{reversed, is_bare, is_residual, bare_arcs, tight_arcs}
+use Rattle.flow_core.specs.Views.{is_bare, is_residual, bare_arcs, tight_arcs}
 use Rattle.flow_core.proofs.Sizes.{length-arcs_of, arc_valid}
 use Rattle.flow_core.proofs.BothWays.{there_by_arc, back_by_arc}
 use Rattle.cancel_flow.specs.Cycles.{ChangesPotentials}

@@ -1,6 +1,7 @@
 -- For proofs: balanced networks, and the room on arcs and reverses by their numbers.
-use Rattle.std.specs.Prelude.{◌≡◌, ℕ, ◌/◌, ◌%◌, ◌<◌, ◌==◌, Bool, ℤ, pos, ◌≤ℤ◌, List, length, get_or}
+use Rattle.std.specs.Prelude.{◌≡◌, ℕ, ◌/◌, ◌<◌, ℤ, pos, ◌≤ℤ◌, List, length, get_or}
 use Rattle.bound_graph.specs.Values.{value_of}
+use Rattle.bound_graph.specs.Reverses.{is_back}
 use Rattle.flow_core.specs.Layout.{arcs_of}
 use Rattle.flow_core.specs.State.{NetworkState, residual_of}
 
@@ -14,10 +15,6 @@ pub record ChangesPotentials (old new : NetworkState) : Type 0 where
   pub flows : new.flows ≡ old.flows
   pub excesses : new.excesses ≡ old.excesses
   pub changes : new.changes ≡ old.changes
-
--- whether a number is that of a reverse
-abbrev pub is_back : ℕ → Bool
-is_back number = number % 2 == 1
 
 -- how much more can flow on the arc or reverse of a number
 abbrev pub room_of : NetworkState → ℕ → ℤ

@@ -6,16 +6,18 @@ use Rattle.screen_model.specs.declared.place.Place.{Place}
 use Rattle.screen_model.specs.Obeys.{Priced}
 use Rattle.screen_model.specs.Cost.{Problem}
 use Rattle.bound_graph.specs.declared.arc.Arc.{Arc}
-use Rattle.bound_graph.specs.Arcs.{arc_at, AreAmong}
+use Rattle.bound_graph.specs.Arcs.{arc_at, AreAmong, no_arc}
 use Rattle.bound_graph.specs.Graph.{arc_of_bound, arcs_of_bounds}
 use Rattle.bound_graph.specs.Nodes.{unpriced_arcs}
+use Rattle.bound_graph.specs.Reverses.{is_back}
 use Rattle.bound_graph.proofs.Among.{cycle}
 use Rattle.bound_graph.proofs.Cycles.{blocks}
-use Rattle.flow_core.specs.Layout.{network_of, no_arc, is_unpriced}
+use Rattle.bound_graph.proofs.Reverses.{both_ways, arc_there}
+use Rattle.flow_core.specs.Layout.{network_of, is_unpriced}
 use Rattle.flow_core.specs.State.{NetworkState}
-use Rattle.flow_core.specs.Views.{is_bare, bare_arcs}
 use Rattle.flow_core.specs.Laws.{NegativeCycleIsBlocked}
-use Rattle.flow_core.proofs.BothWays.{both_ways, is_back, there_at, arc_there, and_second, unpriced_below}
+use Rattle.flow_core.specs.Views.{is_bare, bare_arcs}
+use Rattle.flow_core.proofs.BothWays.{there_at, and_second, unpriced_below}
 
 and_first : (a b : Bool) → (a && b) ≡ true → a ≡ true
 and_first true b both = refl

@@ -1,96 +1,21 @@
 -- Arcs both ways, by their numbers.
-use Rattle.std.proofs.Common.{◌≡◌, ℕ, zero, suc, ◌+◌, ◌*◌, ◌/◌, ◌%◌, ◌^◌, ◌<◌, ◌≤◌, Bool, true, false, cond, eqb, ◌&&◌, ◌||◌, ℤ, pos, ◌-ℤ◌, List, [], ◌∷◌, ◌++◌, length, map, get_or, take, Option, Some, None, refl, sym, ap, ◌∙◌, arith, zero-add, add-zero}
-use Rattle.std.specs.Prelude.{unsigned_abs}
-use Rattle.std.specs.List.{AllByRecursion}
+use Rattle.std.proofs.Common.{◌≡◌, ℕ, zero, suc, ◌+◌, ◌*◌, ◌/◌, ◌<◌, ◌≤◌, Bool, true, false, cond, eqb, ◌&&◌, ◌||◌, List, [], ◌∷◌, length, map, get_or, Option, Some, None, refl, sym, ap, ◌∙◌, arith, zero-add, add-zero}
 use Rattle.std.specs.Int.{is_positive}
 use Rattle.std.proofs.lemmas.Bool.{eqb-true, cond-true, cond-false}
-use Rattle.std.proofs.lemmas.List.{append_assoc, length-map, length-take-le, map-append, take_more, get_or_append_left, get_or_past}
-use Rattle.words.proofs.Products.{size_of_minus}
-use Rattle.screen_model.specs.declared.place.Place.{Place}
-use Rattle.screen_model.specs.declared.bound.Bound.{Bound}
+use Rattle.std.proofs.lemmas.List.{length-map, map-append, get_or_append_left}
 use Rattle.bound_graph.specs.declared.arc.Arc.{Arc}
-use Rattle.bound_graph.specs.Arcs.{IsArc, arc_at}
-use Rattle.bound_graph.specs.Graph.{arcs_of_bounds}
-use Rattle.flow_core.specs.Layout.{FlowNetwork, is_unpriced, reading_arcs, arcs_of, no_arc}
+use Rattle.bound_graph.specs.Arcs.{arc_at, no_arc}
+use Rattle.bound_graph.specs.Reverses.{reversed, with_reverses, is_back}
+use Rattle.bound_graph.proofs.Reverses.{both_ways, with_reverses-append, length-with_reverses, half_more, back_more, half_even, half_odd, even_is_there, odd_is_back, none_past, arc_there, arc_back}
+use Rattle.flow_core.specs.Layout.{FlowNetwork, is_unpriced, reading_arcs, arcs_of}
 use Rattle.flow_core.specs.State.{NetworkState, residual_of}
-use Rattle.flow_core.specs.Views.{reversed, with_reverses, there_from, is_residual, is_bare, residual_arcs, tight_arcs, bare_arcs}
-use Rattle.flow_core.proofs.Elements.{half_more}
-
-pub with_reverses-append : (xs ys : List Arc) → with_reverses (xs ++ ys) ≡ with_reverses xs ++ with_reverses ys
-with_reverses-append [] ys = refl
-with_reverses-append (x ∷ xs) ys = ap (λ (zs : List Arc). x ∷ (reversed x ∷ zs)) (with_reverses-append xs ys)
-
-pub length-with_reverses : (arcs : List Arc) → length (with_reverses arcs) ≡ 2 * length arcs
-length-with_reverses [] = refl
-length-with_reverses (arc ∷ arcs) = omega (arith, length-with_reverses arcs)
-
-pub reversed_valid : (nodes : ℕ) (arc : Arc) → IsArc nodes arc → IsArc nodes (reversed arc)
-reversed_valid nodes arc valid = record { tail = valid.head; head = valid.tail; cost = omega (arith, valid.cost, size_of_minus arc.cost) }
-
-pub all_both_ways : (nodes : ℕ) (arcs : List Arc) → AllByRecursion (IsArc nodes) arcs → AllByRecursion (IsArc nodes) (with_reverses arcs)
-all_both_ways nodes [] all = tt
-all_both_ways nodes (arc ∷ arcs) all = (all.0, (reversed_valid nodes arc all.0, all_both_ways nodes arcs all.1))
-
--- one arc more, and its reverse
-pub one_more : (before arcs : List Arc) (i : ℕ) (table new : List Arc) → i < length arcs → table ≡ before ++ with_reverses (take i arcs)
-    → new ≡ table ++ get_or arcs i no_arc ∷ (reversed (get_or arcs i no_arc) ∷ []) → new ≡ before ++ with_reverses (take (i + 1) arcs)
-one_more before arcs i table new below so_far added =
-    let arc = get_or arcs i no_arc in
-    let pair = arc ∷ (reversed arc ∷ []) in
-    let longer : with_reverses (take (i + 1) arcs) ≡ with_reverses (take i arcs) ++ pair =
-    ap with_reverses (take_more arcs i no_arc below) ∙ with_reverses-append (take i arcs) (arc ∷ []) in
-    added ∙ ap (λ (l : List Arc). l ++ pair) so_far ∙ append_assoc before (with_reverses (take i arcs)) pair ∙ ap (λ (l : List Arc). before ++ l) (sym longer)
-
-readings-append : (node : ℕ) (values : List ℤ) (value : ℤ) → reading_arcs node (values ++ value ∷ []) ≡ reading_arcs node values ++ reading_arcs (node + length values) (value ∷ [])
-readings-append node [] value = ap (λ n. reading_arcs n (value ∷ [])) (sym (add-zero node))
-readings-append node (v ∷ values) value =
-    let next : suc node + length values ≡ node + suc (length values) = omega arith in
-    ap (λ (l : List Arc). record { tail = 0; head = node; cost = v } ∷ (record { tail = node; head = 0; cost = pos 0 -ℤ v } ∷ l))
-    (readings-append (suc node) values value ∙ ap (λ n. reading_arcs (suc node) values ++ reading_arcs n (value ∷ [])) next)
-
--- the two arcs of one reading more, and their reverses
-pub one_reading_more : (before : List Arc) (values : List ℤ) (i : ℕ) (table middle new : List Arc) (there back : Arc) → i < length values → table ≡ before ++ with_reverses (reading_arcs 1 (take i values))
-    → middle ≡ table ++ there ∷ (reversed there ∷ []) → new ≡ middle ++ back ∷ (reversed back ∷ [])
-    → there ≡ record { tail = 0; head = i + 1; cost = get_or values i (pos 0) } → back ≡ record { tail = i + 1; head = 0; cost = pos 0 -ℤ get_or values i (pos 0) }
-    → new ≡ before ++ with_reverses (reading_arcs 1 (take (i + 1) values))
-one_reading_more before values i table middle new there back below so_far first second there_is back_is =
-    let value = get_or values i (pos 0) in
-    let arcs = reading_arcs 1 (take i values) in
-    let node : 1 + length (take i values) ≡ i + 1 = omega (arith, length-take-le i values (omega arith)) in
-    let both : reading_arcs (i + 1) (value ∷ []) ≡ there ∷ (back ∷ []) = λ j. sym there_is j ∷ (sym back_is j ∷ []) in
-    let longer : reading_arcs 1 (take (i + 1) values) ≡ arcs ++ there ∷ (back ∷ []) =
-    ap (reading_arcs 1) (take_more values i (pos 0) below) ∙ readings-append 1 (take i values) value ∙ ap (λ n. arcs ++ reading_arcs n (value ∷ [])) node ∙ ap (λ (l : List Arc). arcs ++ l) both in
-    let pairs = there ∷ (reversed there ∷ (back ∷ (reversed back ∷ []))) in
-    second ∙ ap (λ (l : List Arc). l ++ back ∷ (reversed back ∷ [])) (first ∙ ap (λ (l : List Arc). l ++ there ∷ (reversed there ∷ [])) so_far)
-    ∙ append_assoc (before ++ with_reverses arcs) (there ∷ (reversed there ∷ [])) (back ∷ (reversed back ∷ []))
-    ∙ append_assoc before (with_reverses arcs) pairs
-    ∙ ap (λ (l : List Arc). before ++ l) (sym (ap with_reverses longer ∙ with_reverses-append arcs (there ∷ (back ∷ []))))
-
--- the arcs of bounds and then those of readings
-pub all_added : (first second of_bounds listed empty middle new : List Arc) → empty ≡ [] → of_bounds ≡ first → listed ≡ of_bounds → middle ≡ empty ++ with_reverses listed → new ≡ middle ++ with_reverses second → new ≡ with_reverses (first ++ second)
-all_added first second of_bounds listed empty middle new none are same one two =
-    two ∙ ap (λ (l : List Arc). l ++ with_reverses second) (one ∙ (λ i. none i ++ with_reverses ((same ∙ are) i))) ∙ sym (with_reverses-append first second)
-
--- the costs of the arcs of bounds are their limits
-pub costs_valid : (places : List Place) (bounds : List Bound) → AllByRecursion (λ bound. unsigned_abs bound.limit ≤ 4 * 10 ^ 15) bounds → AllByRecursion (λ arc. unsigned_abs arc.cost ≤ 4 * 10 ^ 15) (arcs_of_bounds places bounds)
-costs_valid places [] limits = tt
-costs_valid places (bound ∷ bounds) limits = (limits.0, costs_valid places bounds limits.1)
+use Rattle.flow_core.specs.Views.{there_from, is_residual, is_bare, residual_arcs, tight_arcs, bare_arcs}
 
 -- ---- the arcs that are there
-
--- the arc or reverse of a number, whether it is there or not
-abbrev pub both_ways : List Arc → ℕ → Option Arc
-both_ways arcs number = arc_at (map Some (with_reverses arcs)) number
-
-abbrev pub is_back : ℕ → Bool
-is_back number = eqb (number % 2) 1
 
 cond_same : (b : Bool) (arc : Option Arc) → cond b arc arc ≡ arc
 cond_same true arc = refl
 cond_same false arc = refl
-
-back_more : (number : ℕ) → suc (suc number) % 2 ≡ number % 2
-back_more number = omega arith
 
 there_at_from : (first : ℕ) (is_there : ℕ → Bool → Bool) (arcs : List Arc) (number : ℕ)
     → arc_at (there_from first is_there arcs) number ≡ cond (is_there (first + number / 2) (is_back number)) (both_ways arcs number) None
@@ -101,7 +26,7 @@ there_at_from first is_there (arc ∷ arcs) (suc (suc number)) =
     let half : suc first + number / 2 ≡ first + suc (suc number) / 2 = omega (arith, half_more number) in
     there_at_from (suc first) is_there arcs number
     ∙ ap (λ k. cond (is_there k (is_back number)) (both_ways arcs number) None) half
-    ∙ ap (λ r. cond (is_there (first + suc (suc number) / 2) (eqb r 1)) (both_ways arcs number) None) (sym (back_more number))
+    ∙ ap (λ back. cond (is_there (first + suc (suc number) / 2) back) (both_ways arcs number) None) (sym (back_more number))
 
 pub there_at : (is_there : ℕ → Bool → Bool) (arcs : List Arc) (number : ℕ)
     → arc_at (there_from 0 is_there arcs) number ≡ cond (is_there (number / 2) (is_back number)) (both_ways arcs number) None
@@ -110,16 +35,6 @@ there_at is_there arcs number = there_at_from 0 is_there arcs number ∙ ap (λ 
 pub length-there_from : (first : ℕ) (is_there : ℕ → Bool → Bool) (arcs : List Arc) → length (there_from first is_there arcs) ≡ 2 * length arcs
 length-there_from first is_there [] = refl
 length-there_from first is_there (arc ∷ arcs) = omega (arith, length-there_from (suc first) is_there arcs)
-
-pub none_past : (arcs : List Arc) (number : ℕ) → length arcs ≤ number / 2 → both_ways arcs number ≡ None
-none_past arcs number past = get_or_past (map Some (with_reverses arcs)) number None (omega (arith, length-map {A = Arc} {B = Option Arc} (with_reverses arcs) Some, length-with_reverses arcs))
-
-pub arc_there : (arcs : List Arc) (k : ℕ) → k < length arcs → both_ways arcs (2 * k) ≡ Some (get_or arcs k no_arc)
-arc_there [] k below = absurd (omega arith)
-arc_there (arc ∷ arcs) zero below = refl
-arc_there (arc ∷ arcs) (suc k) below =
-    let double : 2 * suc k ≡ suc (suc (2 * k)) = omega arith in
-    ap (λ number. both_ways (arc ∷ arcs) number) double ∙ arc_there arcs k (omega arith)
 
 -- ---- the views
 
@@ -174,25 +89,6 @@ pub bare_at : (net : NetworkState) (number : ℕ) → (is_bare net (number / 2) 
 bare_at net number bound = there_at (is_bare net) net.network.bounds number ∙ bare_by net.network number (is_bare net (number / 2) (is_back number)) bound
 
 -- ---- by arcs
-
-half_even : (k : ℕ) → (2 * k) / 2 ≡ k
-half_even k = omega arith
-
-half_odd : (k : ℕ) → (2 * k + 1) / 2 ≡ k
-half_odd k = omega arith
-
-even_is_there : (k : ℕ) → is_back (2 * k) ≡ false
-even_is_there k = let e : (2 * k) % 2 ≡ 0 = omega arith in ap (λ r. eqb r 1) e
-
-odd_is_back : (k : ℕ) → is_back (2 * k + 1) ≡ true
-odd_is_back k = let e : (2 * k + 1) % 2 ≡ 1 = omega arith in ap (λ r. eqb r 1) e
-
-pub arc_back : (arcs : List Arc) (k : ℕ) → k < length arcs → both_ways arcs (2 * k + 1) ≡ Some (reversed (get_or arcs k no_arc))
-arc_back [] k below = absurd (omega arith)
-arc_back (arc ∷ arcs) zero below = refl
-arc_back (arc ∷ arcs) (suc k) below =
-    let double : 2 * suc k + 1 ≡ suc (suc (2 * k + 1)) = omega arith in
-    ap (λ number. both_ways (arc ∷ arcs) number) double ∙ arc_back arcs k (omega arith)
 
 -- the arc k, where the test says that it is there
 pub there_by_arc : (is_there : ℕ → Bool → Bool) (arcs : List Arc) (k : ℕ) → k < length arcs → is_there k false ≡ true → arc_at (there_from 0 is_there arcs) (2 * k) ≡ Some (get_or arcs k no_arc)

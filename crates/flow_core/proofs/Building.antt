@@ -1,10 +1,10 @@
 -- The network of a problem, as it is made.
-use Rattle.std.proofs.Common.{◌≡◌, ◌≢◌, ℕ, zero, suc, ◌+◌, ◌*◌, ◌^◌, ◌<◌, ◌≤◌, ℤ, pos, List, [], ◌∷◌, ◌++◌, length, map, get_or, take, drop, replicate, refl, sym, ap, ◌∙◌, subst, arith}
+use Rattle.std.proofs.Common.{◌≡◌, ◌≢◌, ℕ, zero, suc, ◌+◌, ◌*◌, ◌^◌, ◌<◌, ◌≤◌, ℤ, pos, ◌-ℤ◌, List, [], ◌∷◌, ◌++◌, length, map, get_or, take, drop, replicate, refl, sym, ap, ◌∙◌, subst, arith, add-zero}
 use Rattle.std.specs.Prelude.{unsigned_abs, count_by, if◌then◌else◌}
 use Rattle.std.specs.List.{AllByRecursion, AllZip}
 use Rattle.std.proofs.lemmas.Int.{ints}
 use Rattle.std.proofs.lemmas.Bool.{cond-true, cond-false}
-use Rattle.std.proofs.lemmas.List.{take_at, drop_at, length-map, length-replicate, get_or-replicate, get_or-map}
+use Rattle.std.proofs.lemmas.List.{append_assoc, length-take-le, take_more, take_at, drop_at, length-map, length-replicate, get_or-replicate, get_or-map}
 use Rattle.std.proofs.lemmas.List.Elements.{All-from_recursion}
 use Rattle.std.proofs.lemmas.List.Sums.{sum_by-cons}
 use Rattle.words.specs.Lists.{Distinct}
@@ -18,16 +18,42 @@ use Rattle.screen_model.specs.Obeys.{Priced, HasEnds, with_prices}
 use Rattle.screen_model.proofs.Places.{same_place, other_place}
 use Rattle.screen_model.proofs.Prices.{keep}
 use Rattle.bound_graph.specs.declared.arc.Arc.{Arc}
-use Rattle.bound_graph.specs.Arcs.{IsArc}
+use Rattle.bound_graph.specs.Arcs.{IsArc, no_arc}
 use Rattle.bound_graph.specs.Graph.{index_of, node_of, arc_of_bound, arcs_of_bounds}
 use Rattle.bound_graph.proofs.Arcs.{arcs_of_bounds_valid}
 use Rattle.screen_model.specs.declared.limits.TheConstants.{MOST_READINGS}
+use Rattle.bound_graph.specs.Reverses.{with_reverses}
 use Rattle.flow_core.specs.declared.limits.TheConstants.{MOST_BOUNDS, MOST_PRICE, MOST_WEIGHT, MOST_VALUE}
-use Rattle.flow_core.specs.Layout.{FlowNetwork, IsLayout, HasUnpriced, HasBound, IsRanged, network_of, nodes_of, reading_arcs, arcs_of, no_arc, capacities_of, unpriced_capacity}
+use Rattle.flow_core.specs.Layout.{FlowNetwork, IsLayout, HasUnpriced, HasBound, IsRanged, network_of, nodes_of, reading_arcs, arcs_of, capacities_of, unpriced_capacity}
 use Rattle.flow_core.specs.State.{NetworkState, IsNetwork, IsWithin, is_flowing, new_state, unit_balance}
-use Rattle.flow_core.specs.Views.{with_reverses}
 use Rattle.flow_core.specs.Stored.{IsStored, evens, bounds_in, values_in, network_in, state_in}
 use Rattle.flow_core.proofs.Sizes.{length-capacities_of}
+
+-- ---- the arcs of readings
+
+readings-append : (node : ℕ) (values : List ℤ) (value : ℤ) → reading_arcs node (values ++ value ∷ []) ≡ reading_arcs node values ++ reading_arcs (node + length values) (value ∷ [])
+readings-append node [] value = ap (λ n. reading_arcs n (value ∷ [])) (sym (add-zero node))
+readings-append node (v ∷ values) value =
+    let next : suc node + length values ≡ node + suc (length values) = omega arith in
+    ap (λ (l : List Arc). record { tail = 0; head = node; cost = v } ∷ (record { tail = node; head = 0; cost = pos 0 -ℤ v } ∷ l))
+    (readings-append (suc node) values value ∙ ap (λ n. reading_arcs (suc node) values ++ reading_arcs n (value ∷ [])) next)
+
+-- the two arcs of one reading more
+pub one_reading_more : (before : List Arc) (values : List ℤ) (i : ℕ) (table middle new : List Arc) (there back : Arc) → i < length values → table ≡ before ++ reading_arcs 1 (take i values)
+    → middle ≡ table ++ there ∷ [] → new ≡ middle ++ back ∷ []
+    → there ≡ record { tail = 0; head = i + 1; cost = get_or values i (pos 0) } → back ≡ record { tail = i + 1; head = 0; cost = pos 0 -ℤ get_or values i (pos 0) }
+    → new ≡ before ++ reading_arcs 1 (take (i + 1) values)
+one_reading_more before values i table middle new there back below so_far first second there_is back_is =
+    let value = get_or values i (pos 0) in
+    let arcs = reading_arcs 1 (take i values) in
+    let node : 1 + length (take i values) ≡ i + 1 = omega (arith, length-take-le i values (omega arith)) in
+    let both : reading_arcs (i + 1) (value ∷ []) ≡ there ∷ (back ∷ []) = λ j. sym there_is j ∷ (sym back_is j ∷ []) in
+    let longer : reading_arcs 1 (take (i + 1) values) ≡ arcs ++ there ∷ (back ∷ []) =
+    ap (reading_arcs 1) (take_more values i (pos 0) below) ∙ readings-append 1 (take i values) value ∙ ap (λ n. arcs ++ reading_arcs n (value ∷ [])) node ∙ ap (λ (l : List Arc). arcs ++ l) both in
+    second ∙ ap (λ (l : List Arc). l ++ back ∷ []) (first ∙ ap (λ (l : List Arc). l ++ there ∷ []) so_far)
+    ∙ append_assoc (before ++ arcs) (there ∷ []) (back ∷ [])
+    ∙ append_assoc before arcs (there ∷ (back ∷ []))
+    ∙ ap (λ (l : List Arc). before ++ l) (sym longer)
 
 -- ---- a network out of its arcs with their reverses
 

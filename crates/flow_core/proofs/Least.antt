@@ -20,13 +20,14 @@ use Rattle.screen_model.specs.Flow.{pull, CanCarry, dual_value}
 use Rattle.screen_model.proofs.Gains.{gain_at, gains_are_paid}
 use Rattle.screen_model.proofs.Pulls.{pulled_is, gained_by_change}
 use Rattle.bound_graph.specs.declared.arc.Arc.{Arc}
-use Rattle.bound_graph.specs.Arcs.{arc_at}
+use Rattle.bound_graph.specs.Arcs.{arc_at, no_arc}
 use Rattle.bound_graph.specs.Graph.{arc_of_bound}
 use Rattle.bound_graph.specs.Values.{value_of, RespectsArc, RespectsIfThere, RespectsArcs}
-use Rattle.flow_core.specs.Layout.{FlowNetwork, network_of, reading_arcs, arcs_of, arc_numbered, no_arc, is_unpriced, unpriced_capacity, capacity_at_price, capacity_numbered}
+use Rattle.bound_graph.specs.Reverses.{reversed}
+use Rattle.flow_core.specs.Layout.{FlowNetwork, network_of, reading_arcs, arcs_of, arc_numbered, is_unpriced, unpriced_capacity, capacity_at_price, capacity_numbered}
 use Rattle.flow_core.specs.State.{NetworkState, IsWithin, residual_of, value}
-use Rattle.flow_core.specs.Views.{reversed, there_from, is_residual, is_bare, tight_arcs}
 use Rattle.flow_core.specs.Laws.{BestIsTight}
+use Rattle.flow_core.specs.Views.{there_from, is_residual, is_bare, tight_arcs}
 use Rattle.flow_core.proofs.Elements.{zip_at}
 use Rattle.flow_core.proofs.Sizes.{length-arcs_of, capacity_of_bound, capacity_of_reading}
 use Rattle.flow_core.proofs.BothWays.{unpriced_below}

@@ -21,15 +21,16 @@ use Rattle.screen_model.specs.Best.{IsBest}
 use Rattle.screen_model.proofs.Gains.{gain_at}
 use Rattle.screen_model.proofs.Pulls.{pulled_is}
 use Rattle.bound_graph.specs.declared.arc.Arc.{Arc}
-use Rattle.bound_graph.specs.Arcs.{arc_at}
+use Rattle.bound_graph.specs.Arcs.{arc_at, no_arc}
 use Rattle.bound_graph.specs.Graph.{arc_of_bound, arcs_of_bounds}
 use Rattle.bound_graph.specs.Values.{value_of, RespectsArc, RespectsIfThere, RespectsArcs, series_of}
 use Rattle.bound_graph.specs.Nodes.{unpriced_arcs}
+use Rattle.bound_graph.specs.Reverses.{reversed}
 use Rattle.bound_graph.proofs.Values.{value_at_node, obeys_is_respects, zero_and_series}
-use Rattle.flow_core.specs.Layout.{FlowNetwork, network_of, reading_arcs, arcs_of, arc_numbered, no_arc, is_unpriced, unpriced_capacity, capacity_at_price, capacity_numbered}
+use Rattle.flow_core.specs.Layout.{FlowNetwork, network_of, reading_arcs, arcs_of, arc_numbered, is_unpriced, unpriced_capacity, capacity_at_price, capacity_numbered}
 use Rattle.flow_core.specs.State.{NetworkState, flow_on, residual_of, bound_flows, value}
-use Rattle.flow_core.specs.Views.{reversed, is_residual, is_bare, tight_arcs}
 use Rattle.flow_core.specs.Laws.{FlowIsTight, SolvedIsBest, TightIsBest}
+use Rattle.flow_core.specs.Views.{is_residual, is_bare, tight_arcs}
 use Rattle.flow_core.proofs.Elements.{zip_at}
 use Rattle.flow_core.proofs.Sizes.{length-arcs_of, length-flows, capacity_of_bound, capacity_of_reading}
 use Rattle.flow_core.proofs.BothWays.{unpriced_below, there_by_arc, back_by_arc}

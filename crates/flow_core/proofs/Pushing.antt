@@ -11,8 +11,9 @@ use Rattle.words.proofs.Products.{mul_minus, zero_minus_mul, size_within, within
 use Rattle.bound_graph.specs.declared.arc.Arc.{Arc}
 use Rattle.bound_graph.specs.Graph.{Digraph}
 use Rattle.bound_graph.specs.Values.{value_of}
+use Rattle.bound_graph.specs.Arcs.{no_arc}
 use Rattle.flow_core.specs.declared.limits.TheConstants.{MOST_VALUE}
-use Rattle.flow_core.specs.Layout.{arcs_of, arc_numbered, no_arc, capacities_of, capacity_numbered}
+use Rattle.flow_core.specs.Layout.{arcs_of, arc_numbered, capacities_of, capacity_numbered}
 use Rattle.flow_core.specs.State.{NetworkState, IsNetwork, IsWithin, is_flowing, one_if, unit_balance, balance, flow_on, residual_of, added, rise_by, raised, pushed}
 use Rattle.flow_core.specs.Stored.{IsStored}
 use Rattle.flow_core.proofs.Elements.{zip_set, all_set, count_by_set, added_at}

@@ -8,7 +8,8 @@ use Rattle.std.proofs.Math.IntN.{*ℤ_comm, *ℤ-zero, *ℤ-one, *ℤ-negsuc}
 use Rattle.words.specs.Lists.{inner_product}
 use Rattle.words.proofs.Products.{minus_mul, mul_minus, zero_minus_mul, size_within}
 use Rattle.bound_graph.specs.declared.arc.Arc.{Arc}
-use Rattle.flow_core.specs.Layout.{reading_arcs, no_arc}
+use Rattle.bound_graph.specs.Arcs.{no_arc}
+use Rattle.flow_core.specs.Layout.{reading_arcs}
 use Rattle.flow_core.specs.State.{IsWithin, one_if, unit_balance, balance}
 
 -- ---- lists

@@ -1,20 +1,21 @@
 -- How many arcs a network has, how great its capacities are, and how great the sums of its flows can be.
-use Rattle.std.proofs.Common.{◌≡◌, ℕ, zero, suc, ◌+◌, ◌-◌, ◌*◌, ◌/◌, ◌^◌, ◌<◌, ◌≤◌, Bool, true, false, eqb, ℤ, pos, ◌+ℤ◌, ◌-ℤ◌, ◌*ℤ◌, List, [], ◌∷◌, length, map, sum, get_or, take, refl, sym, ap, ◌∙◌, subst, arith}
-use Rattle.std.specs.Prelude.{unsigned_abs}
+use Rattle.std.proofs.Common.{◌≡◌, ℕ, zero, suc, ◌+◌, ◌-◌, ◌*◌, ◌/◌, ◌^◌, ◌<◌, ◌≤◌, Bool, true, false, eqb, ℤ, pos, ◌+ℤ◌, ◌-ℤ◌, ◌*ℤ◌, List, [], ◌∷◌, length, map, sum, get_or, take, Some, None, refl, sym, ap, ◌∙◌, subst, ⊎_elim, arith}
+use Rattle.std.specs.Prelude.{unsigned_abs, slice_get}
 use Rattle.std.specs.List.{AllByRecursion}
 use Rattle.std.proofs.lemmas.Int.{ints}
-use Rattle.std.proofs.lemmas.Bool.{cond_both}
+use Rattle.std.proofs.lemmas.Bool.{cond_both, cases_lt}
 use Rattle.std.proofs.lemmas.List.{length-append, length-map, length-take, get_or_append_left, get_or-append_right, get_or-map}
 use Rattle.std.proofs.lemmas.List.Elements.{All-from_recursion}
+use Rattle.std.proofs.lemmas.Option.{slice_get-get_or, slice_get_within, get_or_from_slice_get}
 use Rattle.std.proofs.lemmas.List.Sums.{sum_by-le}
 use Rattle.words.specs.Lists.{inner_product}
 use Rattle.words.proofs.Lists.{all_append, all_map, all_weaker, all_zip_long}
 use Rattle.words.proofs.Products.{size_of_product, size_of_minus, size_within, within_size}
 use Rattle.bound_graph.specs.declared.arc.Arc.{Arc}
-use Rattle.bound_graph.specs.Arcs.{IsArc}
+use Rattle.bound_graph.specs.Arcs.{IsArc, no_arc}
 use Rattle.bound_graph.specs.Values.{value_of}
 use Rattle.flow_core.specs.declared.limits.TheConstants.{MOST_VALUE}
-use Rattle.flow_core.specs.Layout.{FlowNetwork, IsLayout, nodes_of, reading_arcs, arcs_of, arc_numbered, no_arc, twice, unpriced_capacity, capacity_at_price, capacities_of, capacity_numbered}
+use Rattle.flow_core.specs.Layout.{FlowNetwork, IsLayout, nodes_of, reading_arcs, arcs_of, arc_numbered, twice, unpriced_capacity, capacity_at_price, capacities_of, capacity_numbered}
 use Rattle.flow_core.specs.State.{NetworkState, IsNetwork, IsWithin, one_if, unit_balance, flow_on}
 use Rattle.flow_core.proofs.Elements.{zip_at, zip_right, length-twice, all_twice, twice_at}
 
@@ -98,6 +99,19 @@ capacity_of_bound network arc below =
     let at = capacity_at_price (unpriced_capacity network) in
     get_or_append_left (map at network.prices) (twice network.weights) 0 arc (omega (arith, length-map network.prices at))
     ∙ get_or-map at network.prices arc 1 0 below
+
+-- by the price that is found of a bound
+pub capacity_at : (network : FlowNetwork) (arc price : ℕ) → slice_get network.prices arc ≡ Some price → capacity_numbered network arc ≡ capacity_at_price (unpriced_capacity network) price
+capacity_at network arc price found =
+    capacity_of_bound network arc (slice_get_within network.prices arc price found)
+    ∙ ap (capacity_at_price (unpriced_capacity network)) (get_or_from_slice_get network.prices arc price 1 found)
+
+-- where no price is found, the arc is that of a reading
+pub none_is_past : (prices : List ℕ) (arc : ℕ) → slice_get prices arc ≡ None → length prices ≤ arc
+none_is_past prices arc none = ⊎_elim
+    (λ (below : arc < length prices). let some = slice_get-get_or prices arc 0 below in absurd cc)
+    (λ (past : length prices ≤ arc). past)
+    (cases_lt arc (length prices))
 
 pub capacity_of_reading : (network : FlowNetwork) (arc : ℕ) → length network.prices ≤ arc → capacity_numbered network arc ≡ get_or network.weights ((arc - length network.prices) / 2) 0
 capacity_of_reading network arc after =

@@ -8,7 +8,7 @@ use Rattle.screen_model.specs.declared.place.End.TheVariants.{Zero, At}
 use Rattle.screen_model.specs.Obeys.{Priced}
 use Rattle.screen_model.specs.Cost.{Problem}
 use Rattle.bound_graph.specs.declared.arc.Arc.{Arc}
-use Rattle.bound_graph.specs.Arcs.{IsArc}
+use Rattle.bound_graph.specs.Arcs.{IsArc, no_arc}
 use Rattle.bound_graph.specs.Graph.{arcs_of_bounds}
 use Rattle.std.specs.List.{Any}
 use Rattle.screen_model.specs.declared.limits.TheConstants.{MOST_READINGS}
@@ -44,9 +44,6 @@ reading_arcs node (value ∷ values) =
 -- the arcs by their numbers: arc k is bound k, and after the bounds come the two arcs of each reading
 abbrev pub arcs_of : FlowNetwork → List Arc
 arcs_of network = network.bounds ++ reading_arcs 1 network.values
-
-abbrev pub no_arc : Arc
-no_arc = record { tail = 0; head = 0; cost = pos 0 }
 
 abbrev pub arc_numbered : FlowNetwork → ℕ → Arc
 arc_numbered network arc = get_or (arcs_of network) arc no_arc

@@ -1,10 +1,17 @@
 -- For proofs: a network as it stands in memory.
-use Rattle.std.specs.Prelude.{◌≡◌, ℕ, ℤ, pos, List, [], ◌∷◌, length, map, take, drop}
+use Rattle.std.specs.Prelude.{◌≡◌, ℕ, ℤ, pos, List, [], ◌∷◌, length, map, take, drop, replicate}
 use Rattle.bound_graph.specs.declared.arc.Arc.{Arc}
 use Rattle.bound_graph.specs.Graph.{Digraph}
+use Rattle.bound_graph.specs.Reverses.{with_reverses}
+use Rattle.flow_core.specs.declared.prices.Kept.{Kept}
+use Rattle.flow_core.specs.declared.prices.Kept.TheVariants.{Count, Each}
 use Rattle.flow_core.specs.Layout.{FlowNetwork, nodes_of, arcs_of, unpriced_capacity}
 use Rattle.flow_core.specs.State.{NetworkState, IsNetwork}
-use Rattle.flow_core.specs.Views.{with_reverses}
+
+-- the prices that are kept: by their count alone where all are 0
+abbrev pub prices_in : Kept → List ℕ
+prices_in (Count count) = replicate count 0
+prices_in (Each prices) = prices.items
 
 -- every second element, from the first on
 abbrev pub evens : {A : Type 0} → List A → List A

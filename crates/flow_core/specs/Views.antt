@@ -1,20 +1,16 @@
 -- To be believed: the arcs of a network both ways, of which some are there.
-use Rattle.std.specs.Prelude.{ℕ, suc, ◌&&◌, ◌||◌, not, Bool, true, false, if◌then◌else◌, pos, ◌-ℤ◌, List, [], ◌∷◌, Option, Some, None}
+use Rattle.std.specs.Prelude.{ℕ, suc, ◌/◌, ◌&&◌, ◌||◌, not, Bool, true, false, if◌then◌else◌, List, [], ◌∷◌, Option, Some, None}
 use Rattle.std.specs.Int.{is_positive}
 use Rattle.bound_graph.specs.declared.arc.Arc.{Arc}
-use Rattle.flow_core.specs.Layout.{is_unpriced, arcs_of}
+use Rattle.bound_graph.specs.Reverses.{reversed, turned, is_back}
+use Rattle.flow_core.specs.Layout.{FlowNetwork, is_unpriced, arcs_of, arc_numbered}
 use Rattle.flow_core.specs.State.{NetworkState, residual_of}
 
--- the arc in the other direction, for its cost negated
-abbrev pub reversed : Arc → Arc
-reversed arc = record { tail = arc.head; head = arc.tail; cost = pos 0 -ℤ arc.cost }
+-- the arc or reverse of a number: number 2 * k is arc k, and number 2 * k + 1 its reverse
+abbrev pub arc_both_ways : FlowNetwork → ℕ → Arc
+arc_both_ways network number = turned (is_back number) (arc_numbered network (number / 2))
 
--- the arcs and their reverses: number 2 * k is arc k, and number 2 * k + 1 its reverse
-abbrev pub with_reverses : List Arc → List Arc
-with_reverses [] = []
-with_reverses (arc ∷ arcs) = arc ∷ (reversed arc ∷ with_reverses arcs)
-
--- those of them that are there, by a test of an arc's number and of whether it is the reverse; the first arc has the
+-- the arcs and reverses that are there, by a test of an arc's number and of whether it is the reverse; the first arc has the
 -- number that is given
 abbrev pub there_from : ℕ → (ℕ → Bool → Bool) → List Arc → List (Option Arc)
 there_from number is_there [] = []

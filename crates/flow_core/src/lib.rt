@@ -9,6 +9,7 @@ mod laws;
 mod limits;
 mod network;
 mod numbers;
+mod prices;
 mod solver;
 mod views;
 

@@ -6,13 +6,14 @@ ghost use Rattle.screen_model.specs.Obeys.{HasEnds, with_prices};
 ghost use Rattle.bound_graph.specs.Values.{value_of};
 ghost use Rattle.bound_graph.specs.Graph.{leaving};
 ghost use Rattle.bound_graph.specs.Arcs.{arc_at, IsArc};
+ghost use Rattle.bound_graph.specs.Reverses.{with_reverses};
 ghost use Rattle.flow_core.specs.Layout.{IsRanged, network_of, nodes_of, arcs_of, arc_numbered, capacity_numbered, is_unpriced};
 ghost use Rattle.flow_core.specs.State.{IsNetwork, new_state, flow_on, residual_of, value, pushed};
-ghost use Rattle.flow_core.specs.Views.{with_reverses};
 
-use crate::build::arcs_both_ways;
+use crate::build::all_arcs;
 use crate::limits::{MOST_BOUNDS, MOST_PRICE, MOST_VALUE, MOST_WEIGHT};
 use crate::numbers::{add, product, rise, unpriced_capacity};
+use crate::prices::Prices;
 use crate::views::{Bare, Residual, Tight};
 use bound_graph::{Arc, ArcList, Graph};
 use screen_model::{BoundList, MOST_READINGS, Places, Series};
@@ -23,13 +24,14 @@ use std::marker::Model;
 /// it less what leaves it, and its potential.
 ///
 /// Arc k is bound k, from its first end to its second; after the bounds come for each reading the arc from node 0 to it
-/// and the arc back. All memory is taken when the network is made, some 50 bytes for each arc; no other call takes any.
+/// and the arc back. All memory is taken when the network is made, some 32 bytes for each arc and 24 for each reading, and 4
+/// for each bound where one of them has a price; no other call takes any.
 #[derive(Drop)]
 pub struct Network {
-    /// Arc k under the number 2 * k, and its reverse under 2 * k + 1.
+    /// Arc k under the number 2 * k, and its reverse, which is not stored, under 2 * k + 1.
     graph: Graph,
     /// The price of each bound, 0 for none.
-    prices: Vec<u32>,
+    prices: Prices,
     /// The weight of each reading.
     weights: Vec<u32>,
     /// The capacity of a bound without a price.
@@ -49,9 +51,9 @@ impl Model for Network {
 
     ghost Value = { NetworkState };
 
-    ghost view = { λ n. state_in n.graph.arcs n.prices.items n.weights.items n.flows.items n.excesses.items n.potentials.items n.changes };
+    ghost view = { λ n. state_in n.graph.arcs n.prices n.weights.items n.flows.items n.excesses.items n.potentials.items n.changes };
 
-    ghost invariant = { λ n. IsStored n.graph n.unpriced_capacity (state_in n.graph.arcs n.prices.items n.weights.items n.flows.items n.excesses.items n.potentials.items n.changes) };
+    ghost invariant = { λ n. IsStored n.graph n.unpriced_capacity (state_in n.graph.arcs n.prices n.weights.items n.flows.items n.excesses.items n.potentials.items n.changes) };
 }
 
 impl Network {
@@ -88,14 +90,14 @@ impl Network {
         }))) }
     {
         let nodes = places.len() + 1;
-        let prices_kept = Vec::from_slice(alloc, prices)?;
+        let prices_kept = Prices::of(alloc, prices)?;
         let weights_kept = Vec::from_slice(alloc, weights)?;
         let flows = vec![in alloc; 0; bounds.len() + 2 * places.len()]?;
         let excesses = vec![in alloc; 0; nodes]?;
         let potentials = vec![in alloc; 0; nodes]?;
-        let arcs = arcs_both_ways(alloc, values.as_slice(), bounds, places)?;
+        let arcs = all_arcs(alloc, values.as_slice(), bounds, places)?;
         Ok(Network {
-            graph: Graph::from_arcs(alloc, nodes as u32, arcs)?,
+            graph: Graph::from_arcs_both_ways(alloc, nodes as u32, arcs)?,
             prices: prices_kept,
             weights: weights_kept,
             unpriced_capacity: unpriced_capacity(weights, prices),
@@ -123,13 +125,15 @@ impl Network {
     }
 
     /// The number of bounds.
+    #[inline]
     pub fn bounds(&self) -> u32
         ensures { result ≡ length self.now.network.bounds }
     {
-        self.prices.len() as u32
+        self.prices.len()
     }
 
     /// The arc of a number, with its own cost.
+    #[inline]
     pub fn arc(&self, arc: u32) -> Arc
         requires { arc < length (arcs_of self.now.network) }
         ensures { result ≡ arc_numbered self.now.network arc }
@@ -155,6 +159,7 @@ impl Network {
     }
 
     /// How much more can flow on an arc or, with `back`, on its reverse, which takes from its flow.
+    #[inline]
     pub fn residual(&self, arc: u32, back: bool) -> i64
         requires { arc < length (arcs_of self.now.network) }
         ensures { result ≡ residual_of self.now arc back }
@@ -168,27 +173,25 @@ impl Network {
     }
 
     /// The capacity of an arc.
+    #[inline]
     pub(crate) fn capacity(&self, arc: u32) -> i64
         requires { arc < length (arcs_of self.now.network) }
         ensures { result ≡ pos (capacity_numbered self.now.network arc) }
     {
-        let arc = arc as usize;
-        if arc < self.prices.len() {
-            match self.prices[arc] {
-                0 => self.unpriced_capacity,
-                price => i64::from(price),
-            }
-        } else {
-            i64::from(self.weights[(arc - self.prices.len()) / 2])
+        match self.prices.get(arc) {
+            Some(0) => self.unpriced_capacity,
+            Some(price) => i64::from(price),
+            None => i64::from(self.weights[(arc - self.prices.len()) as usize / 2]),
         }
     }
 
     /// Whether an arc is that of a bound without a price.
-    pub(crate) fn is_unpriced(&self, arc: u32) -> bool
+    #[inline]
+    pub fn is_unpriced(&self, arc: u32) -> bool
         ensures value { result ≡ is_unpriced self.now.network arc }
         ensures bound { result ≡ true → arc < length self.now.network.bounds }
     {
-        self.prices.get(arc as usize).copied().unwrap_or(1) == 0
+        self.prices.get(arc).unwrap_or(1) == 0
     }
 
     /// The number of arcs and reverses.
@@ -202,10 +205,11 @@ impl Network {
     pub(crate) fn bounds_both_ways(&self) -> u32
         ensures { result ≡ 2 * length self.now.network.bounds }
     {
-        2 * self.prices.len() as u32
+        2 * self.prices.len()
     }
 
     /// An arc under the even numbers, or a reverse under the odd ones.
+    #[inline]
     pub(crate) fn both_ways(&self, number: u32) -> Option<Arc>
         ensures valid { IfSome result (IsArc (nodes_of self.now.network)) }
         ensures found { result ≡ arc_at (map Some (with_reverses (arcs_of self.now.network))) number }

@@ -10,9 +10,10 @@ use Rattle.screen_model.specs.Cost.{Problem, IsSeries, cost}
 use Rattle.screen_model.specs.Best.{IsBest}
 use Rattle.screen_model.proofs.Duality.{least}
 use Rattle.bound_graph.specs.declared.arc.Arc.{Arc}
+use Rattle.bound_graph.specs.Arcs.{no_arc}
 use Rattle.bound_graph.specs.Values.{value_of, RespectsArc, RespectsArcs}
 use Rattle.neg_cycle.specs.Distances.{AreAtMost, IsGreatest}
-use Rattle.flow_core.specs.Layout.{FlowNetwork, nodes_of, reading_arcs, arc_numbered, no_arc, is_unpriced}
+use Rattle.flow_core.specs.Layout.{FlowNetwork, nodes_of, reading_arcs, arc_numbered, is_unpriced}
 use Rattle.flow_core.specs.State.{NetworkState, IsNetwork, bound_flows, value}
 use Rattle.flow_core.specs.Solving.{IsSolved}
 use Rattle.flow_core.specs.Views.{tight_arcs}

@@ -5,11 +5,12 @@ use Rattle.std.proofs.lemmas.Int.{ints}
 use Rattle.std.proofs.lemmas.Bool.{cases_eq, cases_lt}
 use Rattle.std.proofs.lemmas.List.{length-set, get_or-replicate, length-replicate, get_or_past}
 use Rattle.bound_graph.specs.Values.{value_of}
+use Rattle.bound_graph.specs.Reverses.{turned}
 use Rattle.flow_core.specs.Layout.{arc_numbered, nodes_of}
 use Rattle.flow_core.specs.State.{NetworkState}
 use Rattle.path_flow.specs.declared.search.Task.{Task}
 use Rattle.path_flow.specs.declared.search.Label.{Label}
-use Rattle.path_flow.specs.Search.{IsReached, label_at, turned}
+use Rattle.path_flow.specs.Search.{IsReached, label_at}
 use Rattle.path_flow.specs.Reach.{HasDistance, Reach, lowered, nothing_reached}
 use Rattle.path_flow.specs.Searching.{IsSearching, nothing_left}
 use Rattle.path_flow.proofs.Reaching.{lowered_first}

@@ -3,12 +3,14 @@ use Rattle.std.proofs.Common.{◌≡◌, ◌≢◌, ◌⊎◌, ℕ, ◌+◌, ◌
 use Rattle.std.proofs.lemmas.Int.{ints}
 use Rattle.std.proofs.lemmas.Bool.{cases_eq}
 use Rattle.std.proofs.lemmas.List.{length-set}
+use Rattle.bound_graph.specs.Reverses.{turned, is_back}
 use Rattle.flow_core.specs.Layout.{arc_numbered}
 use Rattle.flow_core.specs.State.{NetworkState, residual_of}
+use Rattle.flow_core.specs.Views.{arc_both_ways}
 use Rattle.node_heap.specs.Keys.{HasLeast}
 use Rattle.path_flow.specs.declared.search.Task.{Task}
 use Rattle.path_flow.specs.declared.search.Label.{Label}
-use Rattle.path_flow.specs.Search.{HasRoom, IsEnd, IsNear, IsReached, IsTree, arc_both_ways, is_odd, label_at, step_length, takes_from, turned}
+use Rattle.path_flow.specs.Search.{HasRoom, IsEnd, IsNear, IsReached, IsTree, label_at, step_length, takes_from}
 use Rattle.path_flow.specs.Reach.{HasDistance, Reach}
 use Rattle.path_flow.specs.Searching.{IsLast, IsSearching, IsSettled, StepsFrom, key_at, nothing_left}
 use Rattle.path_flow.proofs.Searching.{distance_of_key, least_at}
@@ -99,15 +101,15 @@ popped_last net task reach node key label below so_far least is =
 
 -- the step from the node that was settled last, and the label that it gives the node after it
 pub record IsBetter (net : NetworkState) (task : Task) (reach : Reach) (u : ℕ) (last : Label) (h : ℕ) (label : Label) : Type 0 where
-  pub step : HasRoom net task.direction (label.number / 2) (is_odd label.number)
+  pub step : HasRoom net task.direction (label.number / 2) (is_back label.number)
   pub tail : (arc_both_ways net.network label.number).tail ≡ u
   pub head : (arc_both_ways net.network label.number).head ≡ h
   pub hops : label.hops ≡ last.hops + 1
   pub some : pos 1 ≤ℤ label.room
-  pub residual : label.room ≤ℤ residual_of net (label.number / 2) (takes_from task.direction (is_odd label.number))
+  pub residual : label.room ≤ℤ residual_of net (label.number / 2) (takes_from task.direction (is_back label.number))
   pub no_more : label.room ≤ℤ last.room
-  pub distance : label.distance ≡ last.distance +ℤ step_length net task.direction (label.number / 2) (is_odd label.number)
-  pub long : pos 0 ≤ℤ step_length net task.direction (label.number / 2) (is_odd label.number)
+  pub distance : label.distance ≡ last.distance +ℤ step_length net task.direction (label.number / 2) (is_back label.number)
+  pub long : pos 0 ≤ℤ step_length net task.direction (label.number / 2) (is_back label.number)
   pub labels : h < length reach.labels
   pub keys : h < length reach.keys
   pub better : (before : Label) → label_at reach.labels h ≡ Some before → label.distance <ℤ before.distance

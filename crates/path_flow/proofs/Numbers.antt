@@ -1,16 +1,16 @@
 -- The numbers of arcs and reverses, and those that leave a node.
-use Rattle.std.proofs.Common.{◌≡◌, ℕ, zero, suc, ◌+◌, ◌*◌, ◌/◌, ◌%◌, ◌<◌, Bool, true, false, if◌then◌else◌, eqb, List, [], ◌∷◌, length, get_or, refl, sym, ap, ◌∙◌, arith}
+use Rattle.std.proofs.Common.{◌≡◌, ℕ, ◌+◌, ◌*◌, ◌/◌, ◌%◌, ◌<◌, Bool, true, false, if◌then◌else◌, length, get_or, sym, ap, ◌∙◌, arith}
 use Rattle.std.specs.Prelude.{Contains}
 use Rattle.std.proofs.lemmas.Bool.{eq-eqb, ne_eqb}
 use Rattle.std.proofs.lemmas.Option.{slice_get-get_or, slice_get_within, get_or_from_slice_get}
 use Rattle.bound_graph.specs.declared.arc.Arc.{Arc}
 use Rattle.bound_graph.specs.Graph.{leaving}
+use Rattle.bound_graph.specs.Arcs.{no_arc}
+use Rattle.bound_graph.specs.Reverses.{with_reverses, turned, is_back}
 use Rattle.bound_graph.proofs.Leaving.{exactly}
-use Rattle.flow_core.specs.Layout.{FlowNetwork, arcs_of, arc_numbered, no_arc}
-use Rattle.flow_core.specs.Views.{with_reverses}
-use Rattle.flow_core.proofs.BothWays.{length-with_reverses}
-use Rattle.flow_core.proofs.Elements.{half_more}
-use Rattle.path_flow.specs.Search.{arc_both_ways, is_odd, turned}
+use Rattle.bound_graph.proofs.Reverses.{length-with_reverses, both_ways_at}
+use Rattle.flow_core.specs.Layout.{FlowNetwork, arcs_of, arc_numbered}
+use Rattle.flow_core.specs.Views.{arc_both_ways}
 
 -- the number of an arc or of its reverse
 abbrev pub number_of : ℕ → Bool → ℕ
@@ -20,24 +20,12 @@ pub number_half : (arc : ℕ) (back : Bool) → number_of arc back / 2 ≡ arc
 number_half arc true = omega arith
 number_half arc false = omega arith
 
-pub number_odd : (arc : ℕ) (back : Bool) → is_odd (number_of arc back) ≡ back
-number_odd arc true = eq-eqb ((2 * arc + 1) % 2) 1 (omega arith)
-number_odd arc false = ne_eqb ((2 * arc) % 2) 1 (λ e. absurd (omega (arith, e)))
+pub number_back : (arc : ℕ) (back : Bool) → is_back (number_of arc back) ≡ back
+number_back arc true = eq-eqb ((2 * arc + 1) % 2) 1 (omega arith)
+number_back arc false = ne_eqb ((2 * arc) % 2) 1 (λ e. absurd (omega (arith, e)))
 
 pub arc_of_number : (network : FlowNetwork) (arc : ℕ) (back : Bool) → arc_both_ways network (number_of arc back) ≡ turned back (arc_numbered network arc)
-arc_of_number network arc back = λ i. turned (number_odd arc back i) (arc_numbered network (number_half arc back i))
-
-odd_more : (n : ℕ) → is_odd (suc (suc n)) ≡ is_odd n
-odd_more n = ap (λ m. eqb m 1) (let e : suc (suc n) % 2 ≡ n % 2 = omega arith in e)
-
-both_ways_at : (arcs : List Arc) (n : ℕ) → n < length (with_reverses arcs) → get_or (with_reverses arcs) n no_arc ≡ turned (is_odd n) (get_or arcs (n / 2) no_arc)
-both_ways_at [] n below = absurd (omega arith)
-both_ways_at (arc ∷ arcs) zero below = refl
-both_ways_at (arc ∷ arcs) (suc zero) below = refl
-both_ways_at (arc ∷ arcs) (suc (suc n)) below =
-    both_ways_at arcs n (omega (arith, below))
-    ∙ (λ i. turned (sym (odd_more n) i) (get_or arcs (n / 2) no_arc))
-    ∙ ap (λ k. turned (is_odd (suc (suc n))) (get_or (arc ∷ arcs) k no_arc)) (sym (half_more n))
+arc_of_number network arc back = λ i. turned (number_back arc back i) (arc_numbered network (number_half arc back i))
 
 -- a number among those that leave a node
 pub record IsLeaving (network : FlowNetwork) (node number : ℕ) : Type 0 where

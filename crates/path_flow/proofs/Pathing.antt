@@ -7,8 +7,10 @@ use Rattle.std.proofs.Math.IntN.{*ℤ-zero, *ℤ-one}
 use lib.IntN.{one}
 use Rattle.bound_graph.specs.declared.arc.Arc.{Arc}
 use Rattle.bound_graph.specs.Values.{value_of}
+use Rattle.bound_graph.specs.Reverses.{turned, is_back}
 use Rattle.flow_core.specs.Layout.{FlowNetwork, arcs_of, arc_numbered}
 use Rattle.flow_core.specs.State.{NetworkState, IsNetwork, flow_on, one_if, added, rise_by, pushed}
+use Rattle.flow_core.specs.Views.{arc_both_ways}
 use Rattle.flow_core.proofs.Elements.{added_at}
 use Rattle.flow_core.proofs.Sizes.{arc_valid, length-flows}
 use Rattle.path_flow.specs.declared.search.Direction.{Direction}
@@ -16,7 +18,7 @@ use Rattle.path_flow.specs.declared.search.Direction.TheVariants.{Forwards, Back
 use Rattle.path_flow.specs.declared.search.Task.{Task}
 use Rattle.path_flow.specs.declared.search.Label.{Label}
 use Rattle.path_flow.specs.Steps.{reduced_cost}
-use Rattle.path_flow.specs.Search.{turned, takes_from, signed, is_odd, arc_both_ways, label_at, IsLinked}
+use Rattle.path_flow.specs.Search.{takes_from, signed, label_at, IsLinked}
 use Rattle.path_flow.specs.Flow.{amount_if, IsPushed}
 
 -- ---- one push
@@ -99,19 +101,19 @@ pub other_arc : (net : NetworkState) (direction : Direction) (labels : List (Opt
 other_arc net direction labels x v label here is_x is_v reached_x reached_v nearer same =
     let arc : arc_numbered net.network (label.number / 2) ≡ arc_numbered net.network (here.number / 2) = ap (arc_numbered net.network) same in
     ⊎_elim
-    (λ (e : is_odd label.number ≡ is_odd here.number).
+    (λ (e : is_back label.number ≡ is_back here.number).
     let ends : arc_both_ways net.network label.number ≡ arc_both_ways net.network here.number = λ i. turned (e i) (arc i) in
     let node : x ≡ v = sym reached_x.head ∙ ap (λ (a : Arc). a.head) ends ∙ reached_v.head in
     let one : label ≡ here = label_is (label_at labels x) label here is_x (ap (label_at labels) node ∙ is_v) in
     let hops = ap (λ (l : Label). l.hops) one in
     absurd (omega (arith, hops, nearer)))
-    (λ (e : is_odd label.number ≡ not (is_odd here.number)).
-    let ends : arc_both_ways net.network label.number ≡ turned (not (is_odd here.number)) (arc_numbered net.network (here.number / 2)) = λ i. turned (e i) (arc i) in
-    let tail : (arc_both_ways net.network label.number).tail ≡ v = ap (λ (a : Arc). a.tail) ends ∙ turned_round (is_odd here.number) (arc_numbered net.network (here.number / 2)) ∙ reached_v.head in
+    (λ (e : is_back label.number ≡ not (is_back here.number)).
+    let ends : arc_both_ways net.network label.number ≡ turned (not (is_back here.number)) (arc_numbered net.network (here.number / 2)) = λ i. turned (e i) (arc i) in
+    let tail : (arc_both_ways net.network label.number).tail ≡ v = ap (λ (a : Arc). a.tail) ends ∙ turned_round (is_back here.number) (arc_numbered net.network (here.number / 2)) ∙ reached_v.head in
     let before : reached_x.before ≡ here = label_is (label_at labels v) reached_x.before here (ap (label_at labels) (sym tail) ∙ reached_x.from) is_v in
     let hops = ap (λ (l : Label). l.hops) before in
     absurd (omega (arith, hops, nearer, reached_x.hops)))
-    (same_or_not (is_odd label.number) (is_odd here.number))
+    (same_or_not (is_back label.number) (is_back here.number))
 
 -- ---- one arc of the path more
 
@@ -131,11 +133,11 @@ pub pushed_more : (task : Task) (labels : List (Option Label)) (end v : ℕ) (am
     → IsPushed task labels end v amount old net → IsNetwork net → pos 1 ≤ℤ amount → v ≢ task.source
     → label_at labels v ≡ Some here → IsLinked old task.direction labels v here → reduced_cost old (here.number / 2) ≡ pos 0
     → ((x : ℕ) (label : Label) → x ≢ task.source → label_at labels x ≡ Some label → IsLinked old task.direction labels x label)
-    → new ≡ pushed net (here.number / 2) (takes_from task.direction (is_odd here.number)) amount
+    → new ≡ pushed net (here.number / 2) (takes_from task.direction (is_back here.number)) amount
     → IsPushed task labels end (arc_both_ways old.network here.number).tail amount old new
 pushed_more task labels end v amount old net new here so_far is some inner is_v reached tight all push =
     let arc = here.number / 2 in
-    let back = is_odd here.number in
+    let back = is_back here.number in
     let takes = takes_from task.direction back in
     let u = (arc_both_ways old.network here.number).tail in
     let below : arc < length (arcs_of net.network) = subst (λ (n : FlowNetwork). arc < length (arcs_of n)) (sym so_far.network) reached.step.below in

@@ -7,15 +7,16 @@ use Rattle.std.proofs.lemmas.List.Sums.{count_by_more_no, count_by_more_yes}
 use Rattle.std.specs.Int.{is_positive}
 use Rattle.bound_graph.specs.declared.arc.Arc.{Arc}
 use Rattle.bound_graph.specs.Values.{value_of, RespectsArc, RespectsArcs}
-use Rattle.flow_core.specs.Layout.{FlowNetwork, IsLayout, no_arc, arcs_of, arc_numbered, capacity_numbered, reading_arcs, capacity_at_price, unpriced_capacity}
+use Rattle.flow_core.specs.Layout.{FlowNetwork, IsLayout, arcs_of, arc_numbered, capacity_numbered, reading_arcs, capacity_at_price, unpriced_capacity}
 use Rattle.flow_core.specs.State.{NetworkState, IsNetwork, flow_on, residual_of, added, pushed}
-use Rattle.flow_core.specs.Views.{bare_arcs}
 use Rattle.flow_core.proofs.Readings.{arc_to_at, arc_from_at}
 use Rattle.flow_core.proofs.Sizes.{arc_valid, length-flows, capacity_of_bound, capacity_of_reading}
 use Rattle.words.specs.Lists.{total}
 use Rattle.words.proofs.Sums.{total-set}
 use Rattle.std.proofs.lemmas.List.{length-set}
 use Rattle.std.proofs.lemmas.List.Sums.{sum_by-set, sum_by_more}
+use Rattle.bound_graph.specs.Arcs.{no_arc}
+use Rattle.flow_core.specs.Views.{bare_arcs}
 use Rattle.path_flow.specs.Flow.{excess_units, positive_size}
 use Rattle.path_flow.proofs.Sums.{positive_less, positive_more}
 use Rattle.path_flow.specs.Steps.{HasNoNegative, reduced_cost}

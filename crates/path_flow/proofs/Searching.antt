@@ -6,8 +6,10 @@ use Rattle.std.proofs.lemmas.Bool.{cases_lt}
 use Rattle.std.proofs.lemmas.List.{get_or_past, get_or_append_left}
 use Rattle.std.proofs.lemmas.List.Elements.{All-get_or}
 use Rattle.bound_graph.specs.declared.arc.Arc.{Arc}
+use Rattle.bound_graph.specs.Arcs.{no_arc}
+use Rattle.bound_graph.specs.Reverses.{turned}
 use Rattle.flow_core.specs.declared.limits.TheConstants.{MOST_VALUE}
-use Rattle.flow_core.specs.Layout.{IsLayout, HasRange, HasUnpriced, no_arc, arcs_of, arc_numbered, nodes_of, reading_arcs}
+use Rattle.flow_core.specs.Layout.{IsLayout, HasRange, HasUnpriced, arcs_of, arc_numbered, nodes_of, reading_arcs}
 use Rattle.flow_core.specs.State.{NetworkState}
 use Rattle.flow_core.proofs.Sizes.{length-arcs_of}
 use Rattle.node_heap.specs.Keys.{HasLeast}
@@ -15,7 +17,7 @@ use Rattle.path_flow.specs.declared.search.Direction.{Direction}
 use Rattle.path_flow.specs.declared.search.Direction.TheVariants.{Forwards, Backwards}
 use Rattle.path_flow.specs.declared.search.Task.{Task}
 use Rattle.path_flow.specs.declared.search.Label.{Label}
-use Rattle.path_flow.specs.Search.{HasRoom, IsEnd, IsFound, label_at, turned}
+use Rattle.path_flow.specs.Search.{HasRoom, IsEnd, IsFound, label_at}
 use Rattle.path_flow.specs.Reach.{HasDistance, Reach}
 use Rattle.path_flow.specs.Searching.{AreFree, IsSearching, IsSettled, key_at, nothing_left}
 

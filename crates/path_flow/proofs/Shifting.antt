@@ -5,16 +5,18 @@ use Rattle.std.proofs.lemmas.Int.{ints, by_lt_z}
 use Rattle.bound_graph.specs.declared.arc.Arc.{Arc}
 use Rattle.bound_graph.specs.Arcs.{IsArc}
 use Rattle.bound_graph.specs.Values.{value_of}
+use Rattle.bound_graph.specs.Reverses.{turned, is_back}
+use Rattle.bound_graph.proofs.Reverses.{reversed_valid}
 use Rattle.flow_core.specs.Layout.{FlowNetwork, IsLayout, arcs_of, arc_numbered, nodes_of}
 use Rattle.flow_core.specs.State.{NetworkState, residual_of}
-use Rattle.flow_core.proofs.BothWays.{reversed_valid}
+use Rattle.flow_core.specs.Views.{arc_both_ways}
 use Rattle.flow_core.proofs.Sizes.{arc_valid}
 use Rattle.path_flow.specs.declared.search.Direction.{Direction}
 use Rattle.path_flow.specs.declared.search.Direction.TheVariants.{Forwards, Backwards}
 use Rattle.path_flow.specs.declared.search.Label.{Label}
 use Rattle.path_flow.specs.Steps.{ChangesPotentials, HasNoNegative, reduced_cost}
 use Rattle.path_flow.specs.declared.search.Task.{Task}
-use Rattle.path_flow.specs.Search.{IsLinked, IsReached, IsRooted, IsTree, arc_both_ways, is_odd, turned, takes_from, signed, arc_length, step_length, HasRoom, label_at, IsNear, IsSearched, positive_part, nearer, IsShifted}
+use Rattle.path_flow.specs.Search.{IsLinked, IsReached, IsRooted, IsTree, takes_from, signed, arc_length, step_length, HasRoom, label_at, IsNear, IsSearched, positive_part, nearer, IsShifted}
 
 -- ---- steps and reduced costs
 
@@ -147,9 +149,9 @@ shifted_tight net new direction labels far arc back from to layout below same sh
 linked_if : (net new : NetworkState) (direction : Direction) (labels : List (Option Label)) (node : ℕ) (option : Option Label) → ((k : ℕ) → k < length (arcs_of net.network) → HasNoNegative net k) → ChangesPotentials net new → IfSome option (IsReached net direction labels node) → IfSome option (IsLinked new direction labels node)
 linked_if net new direction labels node None all changes reached = tt
 linked_if net new direction labels node (Some label) all changes reached =
-    let long = lengths_not_negative net direction (label.number / 2) (is_odd label.number) all reached.step in
+    let long = lengths_not_negative net direction (label.number / 2) (is_back label.number) all reached.step in
     let arc = label.number / 2 in
-    let takes = takes_from direction (is_odd label.number) in
+    let takes = takes_from direction (is_back label.number) in
     let ends : arc_both_ways new.network label.number ≡ arc_both_ways net.network label.number = ap (λ n. arc_both_ways n label.number) changes.network in
     let same = residual_kept net new arc takes changes in
     record {

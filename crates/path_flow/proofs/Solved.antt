@@ -5,16 +5,17 @@ use Rattle.std.proofs.lemmas.Bool.{eqb-true, cases_lt}
 use Rattle.std.proofs.lemmas.List.{get_or_append_left, get_or_past, get_or-replicate, length-replicate}
 use Rattle.bound_graph.specs.Values.{RespectsArc, RespectsArcs}
 use Rattle.flow_core.specs.Laws.{IsBalancedAtReadings}
-use Rattle.flow_core.specs.Layout.{arcs_of, arc_numbered, nodes_of, no_arc, reading_arcs}
+use Rattle.flow_core.specs.Layout.{arcs_of, arc_numbered, nodes_of, reading_arcs}
 use Rattle.flow_core.specs.Solving.{IsSolved}
 use Rattle.flow_core.specs.State.{NetworkState, IsNetwork, IsNew, flow_on, residual_of}
-use Rattle.flow_core.specs.Views.{bare_arcs, is_bare, is_residual, tight_arcs}
 use Rattle.flow_core.proofs.Sizes.{length-arcs_of}
 use Rattle.flow_core.proofs.Totals.{everywhere}
 use Rattle.std.specs.Prelude.{unsigned_abs}
 use Rattle.words.specs.Lists.{total}
 use Rattle.bound_graph.specs.Cycle.{IsNegativeCycle}
+use Rattle.bound_graph.specs.Arcs.{no_arc}
 use Rattle.bound_graph.proofs.Cycles.{forbids}
+use Rattle.flow_core.specs.Views.{bare_arcs, is_bare, is_residual, tight_arcs}
 use Rattle.path_flow.specs.Flow.{IsLeft, excess_units, most_units, units_left}
 use Rattle.path_flow.specs.Steps.{HasNoNegative, HasNoNegatives}
 use Rattle.path_flow.specs.Searching.{AreFree}

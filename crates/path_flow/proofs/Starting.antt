@@ -5,8 +5,9 @@ use Rattle.std.proofs.lemmas.Int.{ints}
 use Rattle.std.proofs.lemmas.Bool.{cases_eq}
 use Rattle.words.proofs.Products.{size_within}
 use Rattle.bound_graph.specs.Values.{value_of, RespectsArcs}
+use Rattle.bound_graph.specs.Arcs.{no_arc}
 use Rattle.flow_core.specs.declared.limits.TheConstants.{MOST_VALUE}
-use Rattle.flow_core.specs.Layout.{IsLayout, HasRange, no_arc, nodes_of}
+use Rattle.flow_core.specs.Layout.{IsLayout, HasRange, nodes_of}
 use Rattle.flow_core.specs.State.{NetworkState}
 use Rattle.flow_core.specs.Views.{bare_arcs}
 use Rattle.path_flow.specs.Steps.{ChangesPotentials}

@@ -3,17 +3,19 @@ use Rattle.std.proofs.Common.{◌≡◌, ℕ, zero, suc, ◌+◌, ◌/◌, ◌<�
 use Rattle.std.proofs.lemmas.Int.{ints, clamps, by_lt_z}
 use Rattle.std.proofs.lemmas.List.{length-set}
 use Rattle.words.proofs.Lists.{contains_cases}
+use Rattle.bound_graph.specs.Reverses.{turned, is_back}
 use Rattle.flow_core.specs.Layout.{arcs_of, arc_numbered, nodes_of}
 use Rattle.flow_core.specs.State.{NetworkState, IsNetwork, residual_of}
+use Rattle.flow_core.specs.Views.{arc_both_ways}
 use Rattle.flow_core.proofs.Sizes.{arc_valid}
 use Rattle.path_flow.specs.declared.search.Task.{Task}
 use Rattle.path_flow.specs.declared.search.Label.{Label}
 use Rattle.path_flow.specs.Steps.{HasNoNegative}
-use Rattle.path_flow.specs.Search.{HasRoom, IsNear, arc_both_ways, is_odd, label_after, label_at, step_length, takes_from, turned}
+use Rattle.path_flow.specs.Search.{HasRoom, IsNear, label_after, label_at, step_length, takes_from}
 use Rattle.path_flow.specs.Reach.{Reach, is_better, lowered}
 use Rattle.path_flow.specs.Searching.{IsLast, IsSearching, key_at, one_if_open, open_nodes}
 use Rattle.path_flow.proofs.Expanding.{IsBetter, last_stays, lowered_keeps, passed, settled_apart, with_label}
-use Rattle.path_flow.proofs.Numbers.{number_half, number_odd, number_of}
+use Rattle.path_flow.proofs.Numbers.{number_half, number_back, number_of}
 use Rattle.path_flow.proofs.Reaching.{lower_by_test, not_lower_by_test, lowered_again, lowered_first, lowered_not}
 use Rattle.path_flow.proofs.Shifting.{lengths_not_negative, turned_valid}
 use Rattle.path_flow.proofs.Trees.{room_some, same_label}
@@ -61,35 +63,35 @@ by_test : {P : Type 0} (b : Bool) → (b ≡ true → P) → (b ≡ false → P)
 by_test true one other = one refl
 by_test false one other = other refl
 
-room_at : (net : NetworkState) (task : Task) (number arc : ℕ) (back : Bool) → number ≡ number_of arc back → HasRoom net task.direction arc back → HasRoom net task.direction (number / 2) (is_odd number)
+room_at : (net : NetworkState) (task : Task) (number arc : ℕ) (back : Bool) → number ≡ number_of arc back → HasRoom net task.direction arc back → HasRoom net task.direction (number / 2) (is_back number)
 room_at net task number arc back e room =
     let half : arc ≡ number / 2 = sym (number_half arc back) ∙ ap (λ n. n / 2) (sym e) in
-    let odd : back ≡ is_odd number = sym (number_odd arc back) ∙ ap is_odd (sym e) in
-    subst (λ a. HasRoom net task.direction a (is_odd number)) half (subst (λ b. HasRoom net task.direction arc b) odd room)
+    let odd : back ≡ is_back number = sym (number_back arc back) ∙ ap is_back (sym e) in
+    subst (λ a. HasRoom net task.direction a (is_back number)) half (subst (λ b. HasRoom net task.direction arc b) odd room)
 
 abbrev NearAt : NetworkState → Task → List (Option Label) → ℕ → Bool → Label → Type 0
 NearAt net task labels arc back from = IsNear from (step_length net task.direction arc back) (label_at labels (turned back (arc_numbered net.network arc)).head)
 
 near_at : (net : NetworkState) (task : Task) (labels : List (Option Label)) (number arc : ℕ) (back : Bool) (last from : Label) → number ≡ number_of arc back → from ≡ last
-    → NearAt net task labels (number / 2) (is_odd number) last → NearAt net task labels arc back from
+    → NearAt net task labels (number / 2) (is_back number) last → NearAt net task labels arc back from
 near_at net task labels number arc back last from e same near =
     let half : number / 2 ≡ arc = ap (λ n. n / 2) e ∙ number_half arc back in
-    let odd : is_odd number ≡ back = ap is_odd e ∙ number_odd arc back in
+    let odd : is_back number ≡ back = ap is_back e ∙ number_back arc back in
     subst (λ a. NearAt net task labels a back from) half
     (subst (λ b. NearAt net task labels (number / 2) b from) odd
-    (subst (λ (l : Label). NearAt net task labels (number / 2) (is_odd number) l) (sym same) near))
+    (subst (λ (l : Label). NearAt net task labels (number / 2) (is_back number) l) (sym same) near))
 
 -- the step of a number is not left any more, once the node after it is near
 past : (net : NetworkState) (task : Task) (reach : Reach) (u number : ℕ) (numbers : List ℕ) (last : Label)
     → IsSearching net task (IsAmong (number ∷ numbers)) reach → IsLast task reach u last → (arc_both_ways net.network number).tail ≡ u
-    → (HasRoom net task.direction (number / 2) (is_odd number) → NearAt net task reach.labels (number / 2) (is_odd number) last)
+    → (HasRoom net task.direction (number / 2) (is_back number) → NearAt net task reach.labels (number / 2) (is_back number) last)
     → IsSearching net task (IsAmong numbers) reach
 past net task reach u number numbers last so_far is_last tail near =
     passed net task reach (IsAmong (number ∷ numbers)) (IsAmong numbers) so_far (λ arc back room from settled left.
     ⊎_elim
     (λ (e : number ≡ number_of arc back).
     let ends : (turned back (arc_numbered net.network arc)).tail ≡ u =
-    sym (λ i. (turned ((ap is_odd e ∙ number_odd arc back) i) (arc_numbered net.network ((ap (λ n. n / 2) e ∙ number_half arc back) i))).tail) ∙ tail in
+    sym (λ i. (turned ((ap is_back e ∙ number_back arc back) i) (arc_numbered net.network ((ap (λ n. n / 2) e ∙ number_half arc back) i))).tail) ∙ tail in
     let same = same_label (label_at reach.labels u) from last (ap (label_at reach.labels) (sym ends) ∙ settled.is) is_last.settled.is in
     inr (near_at net task reach.labels number arc back last from e same (near (room_at net task number arc back e room))))
     (λ later. inl later)
@@ -113,14 +115,14 @@ lowered_better reach h label better = known (label_at reach.labels h)
 
 better_is : (net : NetworkState) (task : Task) (reach : Reach) (u number : ℕ) (last : Label) (left : ℕ → Bool → Type 0) → IsNetwork net → ((k : ℕ) → k < length (arcs_of net.network) → HasNoNegative net k)
     → IsSearching net task left reach → IsLast task reach u last → (arc_both_ways net.network number).tail ≡ u → length reach.keys ≡ length reach.labels
-    → HasRoom net task.direction (number / 2) (is_odd number)
+    → HasRoom net task.direction (number / 2) (is_back number)
     → is_better (label_after net task.direction last number) (label_at reach.labels (arc_both_ways net.network number).head) ≡ true
     → IsBetter net task reach u last (arc_both_ways net.network number).head (label_after net task.direction last number)
 better_is net task reach u number last left network all so_far is_last tail same room better =
     let label = label_after net task.direction last number in
     let h = (arc_both_ways net.network number).head in
     let some = room_some net task reach.labels u last so_far.tree is_last.settled.is in
-    let valid = turned_valid (nodes_of net.network) (is_odd number) (arc_numbered net.network (number / 2)) (arc_valid net.network (number / 2) network.layout room.below) in
+    let valid = turned_valid (nodes_of net.network) (is_back number) (arc_numbered net.network (number / 2)) (arc_valid net.network (number / 2) network.layout room.below) in
     let size = so_far.tree.size in
     record {
       step = room;
@@ -131,7 +133,7 @@ better_is net task reach u number last left network all so_far is_last tail same
       residual = omega (arith, ints, clamps);
       no_more = omega (arith, ints, clamps);
       distance = refl;
-      long = lengths_not_negative net task.direction (number / 2) (is_odd number) all room;
+      long = lengths_not_negative net task.direction (number / 2) (is_back number) all room;
       labels = omega (arith, valid.head, size);
       keys = omega (arith, valid.head, size, same);
       better = λ before is. if_better label (label_at reach.labels h) before better is;
@@ -165,15 +167,15 @@ stepped_as net task numbers u last reach one other same stepped = subst (IsStepp
 
 pub step_over : (net : NetworkState) (task : Task) (reach new : Reach) (u number : ℕ) (numbers : List ℕ) (last : Label) → IsNetwork net → ((k : ℕ) → k < length (arcs_of net.network) → HasNoNegative net k)
     → IsSearching net task (IsAmong (number ∷ numbers)) reach → IsLast task reach u last → (arc_both_ways net.network number).tail ≡ u → number / 2 < length (arcs_of net.network) → length reach.keys ≡ length reach.labels
-    → ((HasRoom net task.direction (number / 2) (is_odd number) → ⊥) → new ≡ reach)
-    → (HasRoom net task.direction (number / 2) (is_odd number) → new ≡ lowered reach (arc_both_ways net.network number).head (label_after net task.direction last number))
+    → ((HasRoom net task.direction (number / 2) (is_back number) → ⊥) → new ≡ reach)
+    → (HasRoom net task.direction (number / 2) (is_back number) → new ≡ lowered reach (arc_both_ways net.network number).head (label_after net task.direction last number))
     → IsStepped net task numbers u last reach new
 step_over net task reach new u number numbers last network all so_far is_last tail below same none some =
     let label = label_after net task.direction last number in
     let h = (arc_both_ways net.network number).head in
-    by_lt_z (pos 0) (residual_of net (number / 2) (takes_from task.direction (is_odd number)))
+    by_lt_z (pos 0) (residual_of net (number / 2) (takes_from task.direction (is_back number)))
     (λ more.
-    let room : HasRoom net task.direction (number / 2) (is_odd number) = record { below = below; room = omega (arith, ints, more) } in
+    let room : HasRoom net task.direction (number / 2) (is_back number) = record { below = below; room = omega (arith, ints, more) } in
     by_test (is_better label (label_at reach.labels h))
     (λ better.
     let lower = lowered_better reach h label better in
@@ -188,7 +190,7 @@ step_over net task reach new u number numbers last network all so_far is_last ta
       counted = refl;
     })))
     (λ full.
-    let no_room : HasRoom net task.direction (number / 2) (is_odd number) → ⊥ = λ room. absurd (omega (arith, ints, full, room.room)) in
+    let no_room : HasRoom net task.direction (number / 2) (is_back number) → ⊥ = λ room. absurd (omega (arith, ints, full, room.room)) in
     stepped_as net task numbers u last reach reach new (none no_room) (record {
       searching = past net task reach u number numbers last so_far is_last tail (λ room. absurd (no_room room));
       is_last = is_last;

@@ -1,13 +1,15 @@
 -- A path is gone back from its end, and flow pushed over its arcs.
 use Rattle.std.proofs.Common.{◌≡◌, ◌≢◌, ℕ, ◌/◌, ◌<◌, ℤ, pos, ◌-ℤ◌, ◌≤ℤ◌, Bool, true, false, List, Option, Some, IfSome, sym, ap, ◌∙◌, subst, arith}
 use Rattle.std.proofs.lemmas.Int.{ints}
+use Rattle.bound_graph.specs.Reverses.{is_back}
 use Rattle.flow_core.specs.Layout.{FlowNetwork, arc_numbered, capacity_numbered, nodes_of}
 use Rattle.flow_core.specs.State.{NetworkState, IsNetwork, flow_on, pushed, residual_of}
+use Rattle.flow_core.specs.Views.{arc_both_ways}
 use Rattle.flow_core.proofs.Sizes.{arc_valid}
 use Rattle.path_flow.specs.declared.search.Task.{Task}
 use Rattle.path_flow.specs.declared.search.Label.{Label}
 use Rattle.path_flow.specs.Flow.{IsPushed, IsTightPath}
-use Rattle.path_flow.specs.Search.{IsLinked, IsRooted, arc_both_ways, is_odd, label_at, takes_from}
+use Rattle.path_flow.specs.Search.{IsLinked, IsRooted, label_at, takes_from}
 use Rattle.path_flow.proofs.Pathing.{pushed_more}
 use Rattle.path_flow.proofs.Shifting.{turned_valid}
 use Rattle.path_flow.proofs.Trees.{same_label}
@@ -49,7 +51,7 @@ pub record IsStepBack (old new : NetworkState) (task : Task) (labels : List (Opt
 
 pub step_back : (old net new : NetworkState) (task : Task) (labels : List (Option Label)) (end node before : ℕ) (amount : ℤ) (label : Label) → IsNetwork old → IsNetwork net → IsRooted old task labels → IsTightPath old task labels end → (last : Label) → label_at labels end ≡ Some last
     → IsPushed task labels end node amount old net → IsOnPath labels end node amount → node ≢ task.source → label_at labels node ≡ Some label → pos 1 ≤ℤ amount
-    → new ≡ pushed net (label.number / 2) (takes_from task.direction (is_odd label.number)) amount → before ≡ (arc_both_ways net.network label.number).tail
+    → new ≡ pushed net (label.number / 2) (takes_from task.direction (is_back label.number)) amount → before ≡ (arc_both_ways net.network label.number).tail
     → IsStepBack old new task labels end node before amount
 step_back old net new task labels end node before amount label is network rooted tight last is_last so_far on inner is_node some push before_is =
     let linked = linked_at old task labels node label rooted inner is_node in
@@ -59,7 +61,7 @@ step_back old net new task labels end node before amount label is network rooted
     let arc_tight = tight node label last inner is_node is_last near in
     let more = pushed_more task labels end node amount old net new label so_far network some inner is_node linked arc_tight (λ x l apart there. linked_at old task labels x l rooted apart there) push in
     let tail : (arc_both_ways old.network label.number).tail ≡ before = ap (λ (n : FlowNetwork). (arc_both_ways n label.number).tail) (sym so_far.network) ∙ sym before_is in
-    let valid = turned_valid (nodes_of old.network) (is_odd label.number) (arc_numbered old.network (label.number / 2)) (arc_valid old.network (label.number / 2) is.layout linked.step.below) in
+    let valid = turned_valid (nodes_of old.network) (is_back label.number) (arc_numbered old.network (label.number / 2)) (arc_valid old.network (label.number / 2) is.layout linked.step.below) in
     let from : label_at labels before ≡ Some linked.before = ap (label_at labels) (sym tail) ∙ linked.from in
     let closer = linked.no_farther in
     let less = linked.no_more in

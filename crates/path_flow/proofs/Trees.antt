@@ -5,12 +5,14 @@ use Rattle.std.proofs.lemmas.Int.{ints}
 use Rattle.std.proofs.lemmas.Bool.{cases_eq}
 use Rattle.words.proofs.Products.{size_within, within_size}
 use Rattle.bound_graph.specs.Values.{value_of}
+use Rattle.bound_graph.specs.Reverses.{is_back}
 use Rattle.flow_core.specs.Layout.{arcs_of, nodes_of}
 use Rattle.flow_core.specs.State.{NetworkState, IsNetwork}
+use Rattle.flow_core.specs.Views.{arc_both_ways}
 use Rattle.path_flow.specs.declared.search.Task.{Task}
 use Rattle.path_flow.specs.declared.search.Label.{Label}
 use Rattle.path_flow.specs.Steps.{HasNoNegative}
-use Rattle.path_flow.specs.Search.{IsReached, IsTree, arc_both_ways, is_odd, label_at, step_length}
+use Rattle.path_flow.specs.Search.{IsReached, IsTree, label_at, step_length}
 use Rattle.path_flow.proofs.Shifting.{lengths_not_negative}
 use Rattle.path_flow.proofs.Lengths.{length_small}
 use Rattle.path_flow.proofs.Pigeonhole.{IsBefore, few_hops}
@@ -53,8 +55,8 @@ distance_in net task labels network all tree (suc n) node label is hops = ⊎_el
     (λ (inner : node ≢ task.source).
     let reached = reached_at net task labels node label tree inner is in
     let before = distance_in net task labels network all tree n (arc_both_ways net.network label.number).tail reached.before reached.from (omega (arith, hops, reached.hops)) in
-    let low = lengths_not_negative net task.direction (label.number / 2) (is_odd label.number) all reached.step in
-    let high = within_size (step_length net task.direction (label.number / 2) (is_odd label.number)) (6 * 10 ^ 15) (length_small net task.direction (label.number / 2) (is_odd label.number) network reached.step.below) in
+    let low = lengths_not_negative net task.direction (label.number / 2) (is_back label.number) all reached.step in
+    let high = within_size (step_length net task.direction (label.number / 2) (is_back label.number)) (6 * 10 ^ 15) (length_small net task.direction (label.number / 2) (is_back label.number) network reached.step.below) in
     (omega (arith, ints, before.0, low, reached.distance), omega (arith, ints, before.1, high.1, reached.distance)))
     (cases_eq node task.source)
 

@@ -3,11 +3,12 @@ use Rattle.std.proofs.Common.{◌≡◌, ℕ, zero, suc, ◌+◌, ◌*◌, ◌<�
 use Rattle.std.specs.List.{AllByRecursion}
 use Rattle.std.proofs.lemmas.Bool.{eqb-true, eq-eqb}
 use Rattle.bound_graph.specs.declared.arc.Arc.{Arc}
-use Rattle.bound_graph.specs.Arcs.{arc_at}
+use Rattle.bound_graph.specs.Arcs.{arc_at, no_arc}
 use Rattle.bound_graph.specs.Values.{RespectsArc, RespectsIfThere, RespectsArcs}
-use Rattle.flow_core.specs.Layout.{no_arc, HasUnpriced}
+use Rattle.bound_graph.specs.Reverses.{reversed}
+use Rattle.flow_core.specs.Layout.{HasUnpriced}
 use Rattle.flow_core.specs.State.{NetworkState}
-use Rattle.flow_core.specs.Views.{reversed, there_from, is_bare, bare_arcs}
+use Rattle.flow_core.specs.Views.{there_from, is_bare, bare_arcs}
 use Rattle.flow_core.proofs.BothWays.{there_by_arc}
 
 pub all_get : {A : Type 0} (P : A → Type 0) (xs : List A) (i : ℕ) (d : A) → AllByRecursion P xs → i < length xs → P (get_or xs i d)

@@ -1,20 +1,18 @@
 -- For proofs: searches over residual arcs, the paths that they find, and the potentials after them.
-use Rattle.std.specs.Prelude.{◌≡◌, ◌≢◌, ◌⊎◌, ℕ, ◌+◌, ◌/◌, ◌%◌, ◌^◌, ◌<◌, ◌≤◌, ◌==◌, not, Bool, true, if◌then◌else◌, ℤ, pos, negsuc, ◌+ℤ◌, ◌-ℤ◌, ◌≤ℤ◌, ◌<ℤ◌, List, length, get_or, Option, Some, None, IfSome, unsigned_abs}
+use Rattle.std.specs.Prelude.{◌≡◌, ◌≢◌, ◌⊎◌, ℕ, ◌+◌, ◌/◌, ◌^◌, ◌<◌, ◌≤◌, not, Bool, true, ℤ, pos, negsuc, ◌+ℤ◌, ◌-ℤ◌, ◌≤ℤ◌, ◌<ℤ◌, List, length, get_or, Option, Some, None, IfSome, unsigned_abs}
 use Rattle.std.specs.Int.{int_min}
 use Rattle.bound_graph.specs.declared.arc.Arc.{Arc}
 use Rattle.bound_graph.specs.Values.{value_of}
-use Rattle.flow_core.specs.Layout.{FlowNetwork, arcs_of, arc_numbered, nodes_of}
+use Rattle.bound_graph.specs.Reverses.{turned, is_back}
+use Rattle.flow_core.specs.Layout.{arcs_of, arc_numbered, nodes_of}
 use Rattle.flow_core.specs.State.{NetworkState, residual_of}
-use Rattle.flow_core.specs.Views.{reversed}
+use Rattle.flow_core.specs.Views.{arc_both_ways}
 use Rattle.path_flow.specs.declared.search.Direction.{Direction}
 use Rattle.path_flow.specs.declared.search.Direction.TheVariants.{Forwards, Backwards}
 use Rattle.path_flow.specs.declared.search.Task.{Task}
 use Rattle.path_flow.specs.declared.search.Label.{Label}
 
 -- ---- steps: over an arc, or over its reverse
-
-abbrev pub turned : Bool → Arc → Arc
-turned back arc = if back then reversed arc else arc
 
 -- whether a step takes from the flow of the arc: backwards, flow moves against the step
 abbrev pub takes_from : Direction → Bool → Bool
@@ -37,15 +35,6 @@ pub record HasRoom (net : NetworkState) (direction : Direction) (arc : ℕ) (bac
   pub below : arc < length (arcs_of net.network)
   pub room : pos 1 ≤ℤ residual_of net arc (takes_from direction back)
 
--- ---- the numbers of arcs and reverses
-
-abbrev pub is_odd : ℕ → Bool
-is_odd number = number % 2 == 1
-
--- the arc or reverse of a number
-abbrev pub arc_both_ways : FlowNetwork → ℕ → Arc
-arc_both_ways network number = turned (is_odd number) (arc_numbered network (number / 2))
-
 -- ---- what a search is for
 
 -- flow can be taken to the node, or brought from it
@@ -61,10 +50,10 @@ IsEnd net task node = ((node ≡ 0) × (task.ends_at_zero ≡ true)) ⊎ IsOppos
 -- how a node is reached by the step of a number, from a node that was reached so
 abbrev pub label_after : NetworkState → Direction → Label → ℕ → Label
 label_after net direction last number = record {
-  distance = last.distance +ℤ step_length net direction (number / 2) (is_odd number);
+  distance = last.distance +ℤ step_length net direction (number / 2) (is_back number);
   number = number;
   hops = last.hops + 1;
-  room = int_min last.room (residual_of net (number / 2) (takes_from direction (is_odd number)));
+  room = int_min last.room (residual_of net (number / 2) (takes_from direction (is_back number)));
 }
 
 abbrev pub label_at : List (Option Label) → ℕ → Option Label
@@ -72,14 +61,14 @@ label_at labels node = get_or labels node None
 
 -- A node was reached by the step of its label's number, from a node that was reached before.
 pub record IsReached (net : NetworkState) (direction : Direction) (labels : List (Option Label)) (node : ℕ) (label : Label) : Type 0 where
-  pub step : HasRoom net direction (label.number / 2) (is_odd label.number)
+  pub step : HasRoom net direction (label.number / 2) (is_back label.number)
   pub head : (arc_both_ways net.network label.number).head ≡ node
   pub before : Label
   pub from : label_at labels (arc_both_ways net.network label.number).tail ≡ Some before
   pub hops : label.hops ≡ before.hops + 1
-  pub distance : label.distance ≡ before.distance +ℤ step_length net direction (label.number / 2) (is_odd label.number)
+  pub distance : label.distance ≡ before.distance +ℤ step_length net direction (label.number / 2) (is_back label.number)
   pub some : pos 1 ≤ℤ label.room
-  pub residual : label.room ≤ℤ residual_of net (label.number / 2) (takes_from direction (is_odd label.number))
+  pub residual : label.room ≤ℤ residual_of net (label.number / 2) (takes_from direction (is_back label.number))
   pub no_more : label.room ≤ℤ before.room
 
 -- The labels lead back to the source.
@@ -95,14 +84,14 @@ pub record IsTree (net : NetworkState) (task : Task) (labels : List (Option Labe
 
 -- A node was reached by the step of its label's number, whatever the potentials are.
 pub record IsLinked (net : NetworkState) (direction : Direction) (labels : List (Option Label)) (node : ℕ) (label : Label) : Type 0 where
-  pub step : HasRoom net direction (label.number / 2) (is_odd label.number)
+  pub step : HasRoom net direction (label.number / 2) (is_back label.number)
   pub head : (arc_both_ways net.network label.number).head ≡ node
   pub before : Label
   pub from : label_at labels (arc_both_ways net.network label.number).tail ≡ Some before
   pub hops : label.hops ≡ before.hops + 1
   pub no_farther : before.distance ≤ℤ label.distance
   pub some : pos 1 ≤ℤ label.room
-  pub residual : label.room ≤ℤ residual_of net (label.number / 2) (takes_from direction (is_odd label.number))
+  pub residual : label.room ≤ℤ residual_of net (label.number / 2) (takes_from direction (is_back label.number))
   pub no_more : label.room ≤ℤ before.room
 
 -- The labels lead back to the source, whatever the potentials are.

@@ -1,10 +1,12 @@
 -- For proofs: what holds while a search goes on.
 use Rattle.std.specs.Prelude.{◌≡◌, ◌≢◌, ◌⊎◌, ℕ, ◌+◌, Bool, false, ℤ, pos, ◌≤ℤ◌, List, [], ◌∷◌, get_or, Option, Some, None}
+use Rattle.bound_graph.specs.Reverses.{turned}
 use Rattle.flow_core.specs.Layout.{arc_numbered}
 use Rattle.flow_core.specs.State.{NetworkState, residual_of}
+use Rattle.flow_core.specs.Views.{arc_both_ways}
 use Rattle.path_flow.specs.declared.search.Task.{Task}
 use Rattle.path_flow.specs.declared.search.Label.{Label}
-use Rattle.path_flow.specs.Search.{HasRoom, IsEnd, IsNear, IsTree, arc_both_ways, label_at, step_length, turned}
+use Rattle.path_flow.specs.Search.{HasRoom, IsEnd, IsNear, IsTree, label_at, step_length}
 use Rattle.path_flow.specs.Reach.{IsKeyed, Reach}
 
 -- the key of a node that waits in the heap

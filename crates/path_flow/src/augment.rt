@@ -7,7 +7,7 @@ ghost use Rattle.path_flow.specs.Flow.{IsPushed, IsTightPath};
 ghost use Rattle.path_flow.specs.Steps.{HasNoNegatives};
 ghost use Rattle.path_flow.specs.Search.{IsRooted, label_at};
 
-use crate::search::{Labels, Task, is_back, node_before};
+use crate::search::{Labels, Task, node_before, takes_from};
 use flow_core::Network;
 
 /// Pushes an amount along the path to the end, which has none but tight arcs.
@@ -30,7 +30,7 @@ pub(crate) fn push_along(net: &mut Network, task: Task, labels: &Labels, end: u3
             Some(label) => {
                 net.push(
                     label.number / 2,
-                    is_back(label.number, task.direction),
+                    takes_from(label.number, task.direction),
                     amount,
                 );
                 node = node_before(net, label.number);

@@ -1,5 +1,5 @@
 //! The arcs of negative reduced cost, saturated.
-ghost use Rattle.std.specs.Prelude.{◌≡◌, ◌≤◌, ◌<◌, ◌+◌, ◌*◌, ◌^◌, ◌↔◌, ℕ, pos, ◌+ℤ◌, ◌-ℤ◌, ◌<ℤ◌, get_or, length, sum, unsigned_abs, IsTrue};
+ghost use Rattle.std.specs.Prelude.{◌≡◌, ◌≤◌, ◌<◌, ◌+◌, ◌*◌, ◌^◌, ◌↔◌, ℕ, pos, ◌+ℤ◌, ◌-ℤ◌, ◌≤ℤ◌, ◌<ℤ◌, get_or, length, sum, unsigned_abs, IsTrue};
 ghost use Rattle.words.specs.Lists.{total};
 ghost use Rattle.bound_graph.specs.Values.{RespectsArcs};
 ghost use Rattle.flow_core.specs.Layout.{arcs_of, priced_count};
@@ -45,6 +45,21 @@ fn saturate_bounds(net: &mut Network)
     ensures changes { net.new.changes ≤ priced_count net.old.network }
 {
     for bound in 0..net.bounds() {
+        saturate_bound(net, bound);
+    }
+}
+
+/// Saturates a bound on which nothing flows if its reduced cost is negative. One without a price has none, and is passed
+/// over before its arc is read.
+fn saturate_bound(net: &mut Network, bound: u32)
+    requires network { IsNetwork net.old }
+    requires bound { bound < length net.old.network.bounds }
+    requires empty { flow_on net.old bound ≡ pos 0 }
+    requires obeys { get_or net.old.network.prices bound 1 ≡ 0 → pos 0 ≤ℤ reduced_cost net.old bound }
+    ensures saturated { Saturates bound net.old net.new }
+    ensures network { IsNetwork net.new }
+{
+    if !net.is_unpriced(bound) {
         saturate_if_negative(net, bound);
     }
 }

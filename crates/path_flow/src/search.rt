@@ -3,12 +3,14 @@ ghost use Rattle.std.specs.Prelude.{◌≡◌, ◌≢◌, ◌≤◌, ◌<◌, �
 ghost use Rattle.std.specs.List.{AllByRecursion};
 ghost use Rattle.words.specs.Lists.{Distinct};
 ghost use Rattle.bound_graph.specs.Values.{value_of};
+ghost use Rattle.bound_graph.specs.Reverses.{is_back};
 ghost use Rattle.flow_core.specs.Layout.{arcs_of, nodes_of};
 ghost use Rattle.flow_core.specs.State.{IsNetwork};
+ghost use Rattle.flow_core.specs.Views.{arc_both_ways};
 ghost use Rattle.node_heap.specs.Keys.{HasLeast};
 ghost use Rattle.path_flow.specs.Reach.{IsKeyed, is_better, lowered, nothing_reached};
 ghost use Rattle.path_flow.specs.Steps.{HasNoNegatives};
-ghost use Rattle.path_flow.specs.Search.{HasRoom, IsEnd, IsFound, arc_both_ways, is_odd, label_after, label_at, step_length, takes_from};
+ghost use Rattle.path_flow.specs.Search.{HasRoom, IsEnd, IsFound, label_after, label_at, step_length, takes_from};
 ghost use Rattle.path_flow.specs.Searching.{AreFree, IsLast, IsSearching, StepsFrom, nothing_left, open_nodes};
 
 use crate::saturate::reduced_cost;
@@ -234,11 +236,11 @@ fn reach_over(net: &Network, direction: Direction, last: Label, number: u32, lab
     requires few { last.hops < 2 ^ 31 }
     requires size { length labels.old.labels ≡ nodes_of net.now.network }
     requires keyed { IsKeyed labels.old }
-    ensures none { (HasRoom net.now direction (number / 2) (is_odd number) → ⊥) → labels.new ≡ labels.old }
-    ensures some { HasRoom net.now direction (number / 2) (is_odd number)
+    ensures none { (HasRoom net.now direction (number / 2) (is_back number) → ⊥) → labels.new ≡ labels.old }
+    ensures some { HasRoom net.now direction (number / 2) (is_back number)
         → labels.new ≡ lowered labels.old (arc_both_ways net.now.network number).head (label_after net.now direction last number) }
 {
-    let residual = net.residual(number / 2, is_back(number, direction));
+    let residual = net.residual(number / 2, takes_from(number, direction));
     if residual > 0 {
         let label = Label {
             distance: last.distance + step_length(net, direction, number),
@@ -254,11 +256,11 @@ fn reach_over(net: &Network, direction: Direction, last: Label, number: u32, lab
 fn step_length(net: &Network, direction: Direction, number: u32) -> i128
     requires network { IsNetwork net.now }
     requires number { number / 2 < length (arcs_of net.now.network) }
-    ensures long { result ≡ step_length net.now direction (number / 2) (is_odd number) }
+    ensures long { result ≡ step_length net.now direction (number / 2) (is_back number) }
     ensures size { unsigned_abs result ≤ 6 * 10 ^ 15 }
 {
     let cost = reduced_cost(net, number / 2);
-    if is_back(number, direction) {
+    if takes_from(number, direction) {
         minus(cost)
     } else {
         cost
@@ -274,8 +276,8 @@ fn minus(number: i128) -> i128
 }
 
 /// Whether a step over the arc or reverse of a number takes from its arc's flow.
-pub(crate) fn is_back(number: u32, direction: Direction) -> bool
-    ensures { result ≡ takes_from direction (is_odd number) }
+pub(crate) fn takes_from(number: u32, direction: Direction) -> bool
+    ensures { result ≡ takes_from direction (is_back number) }
 {
     match direction {
         Direction::Forwards => number % 2 == 1,

@@ -2,6 +2,8 @@
 #![tactic(auto)]
 
 #[cfg(test)]
+mod both_ways_tests;
+#[cfg(test)]
 mod bound_graph_tests;
 #[cfg(test)]
 mod cancel_flow_tests;

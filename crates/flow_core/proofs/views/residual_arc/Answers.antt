@@ -2,8 +2,9 @@ use Rattle.std.proofs.Common.{◌≡◌, ◌/◌, true, false, sym, ap, ◌∙�
 use Rattle.std.specs.Prelude.{FitsSigned}
 use Rattle.std.specs.Int.{is_positive}
 use Rattle.std.proofs.lemmas.Int.{to_z-of_z}
+use Rattle.bound_graph.specs.Reverses.{is_back}
 use Rattle.flow_core.specs.State.{residual_of}
-use Rattle.flow_core.proofs.BothWays.{is_back, residual_past, residual_there, residual_away}
+use Rattle.flow_core.proofs.BothWays.{residual_past, residual_there, residual_away}
 use Rattle.flow_core.proofs.views.residual_arc.Goals as goal
 
 pub returns-then-arc-arcs-clause-found : goal.returns-then-arc-arcs-clause-found

@@ -1,11 +1,13 @@
 use Rattle.std.proofs.Common.{◌≡◌, ◌<◌, ◌/◌, ℕ, ℤ, pos, ◌≤ℤ◌, List, Option, Some, w64, to_z, of_z, length, sym, ap, ◌∙◌, subst, arith}
 use Rattle.std.specs.Prelude.{FitsSigned}
 use Rattle.std.proofs.lemmas.Int.{to_z-of_z, ints}
+use Rattle.bound_graph.specs.Reverses.{is_back}
 use Rattle.flow_core.specs.Layout.{FlowNetwork, arcs_of}
 use Rattle.flow_core.specs.State.{NetworkState, pushed, residual_of}
+use Rattle.flow_core.specs.Views.{arc_both_ways}
 use Rattle.path_flow.specs.declared.search.Label.{Label}
 use Rattle.path_flow.specs.Flow.{IsPushed}
-use Rattle.path_flow.specs.Search.{arc_both_ways, is_odd, label_at, takes_from}
+use Rattle.path_flow.specs.Search.{label_at, takes_from}
 use Rattle.path_flow.proofs.Augmenting.{optimal_pushed}
 use Rattle.path_flow.proofs.Pathing.{nothing_pushed}
 use Rattle.path_flow.proofs.Tracing.{at_end, linked_at, room_left, step_back}
@@ -36,14 +38,14 @@ push-requires c =
     let is = c.loop-node.invariant in
     let amount = to_z w64 (of_z w64 c.args.amount) in
     let linked = linked_at old c.args.task labels c.loop-node.node label c.requires.tree c.loop-node-test.true (sym c.in-Some.ensures.label) in
-    let takes = takes_from c.args.task.direction (is_odd label.number) in
+    let takes = takes_from c.args.task.direction (is_back label.number) in
     let same = room_left old net c.args.task labels c.args.end c.loop-node.node amount label is.pushed c.loop-node-test.true (sym c.in-Some.ensures.label) takes in
     let room = subst (λ (l : Label). amount ≤ℤ l.room) (same_label (label_at labels c.loop-node.node) is.on.label label is.on.is (sym c.in-Some.ensures.label)) is.on.room in
     let least = linked.residual in
     record {
       arc = subst (λ (n : FlowNetwork). label.number / 2 < length (arcs_of n)) (sym is.pushed.network) linked.step.below;
       some = amount_some c.args.amount c.ranges.amount c.requires.some;
-      room = subst (λ b. amount ≤ℤ residual_of net (label.number / 2) b) (sym c.is_back.ensures) (subst (λ (z : ℤ). amount ≤ℤ z) (sym same) (omega (arith, ints, room, least)));
+      room = subst (λ b. amount ≤ℤ residual_of net (label.number / 2) b) (sym c.takes_from.ensures) (subst (λ (z : ℤ). amount ≤ℤ z) (sym same) (omega (arith, ints, room, least)));
     }
 
 pub loop-node-preserved : goal.loop-node-preserved
@@ -55,7 +57,7 @@ loop-node-preserved c =
     let is = c.loop-node.invariant in
     let amount = to_z w64 (of_z w64 c.args.amount) in
     let room = c.requires.room in
-    let new = c.push.ensures.pushed ∙ ap (λ b. pushed net (label.number / 2) b amount) c.is_back.ensures in
+    let new = c.push.ensures.pushed ∙ ap (λ b. pushed net (label.number / 2) b amount) c.takes_from.ensures in
     let before = c.node_before-node.ensures ∙ ap (λ (s : NetworkState). (arc_both_ways s.network label.number).tail) c.push.ensures.pushed in
     let back = step_back old net c.push.new.self c.args.task labels c.args.end c.loop-node.node c.node_before-node.result amount label c.requires.network is.network c.requires.tree c.requires.tight room.0 room.1
     is.pushed is.on c.loop-node-test.true (sym c.in-Some.ensures.label) (amount_some c.args.amount c.ranges.amount c.requires.some) new before in
@@ -74,7 +76,7 @@ loop-node-smaller c =
     let is = c.loop-node.invariant in
     let amount = to_z w64 (of_z w64 c.args.amount) in
     let room = c.requires.room in
-    let new = c.push.ensures.pushed ∙ ap (λ b. pushed net (label.number / 2) b amount) c.is_back.ensures in
+    let new = c.push.ensures.pushed ∙ ap (λ b. pushed net (label.number / 2) b amount) c.takes_from.ensures in
     let before = c.node_before-node.ensures ∙ ap (λ (s : NetworkState). (arc_both_ways s.network label.number).tail) c.push.ensures.pushed in
     let back = step_back old net c.push.new.self c.args.task labels c.args.end c.loop-node.node c.node_before-node.result amount label c.requires.network is.network c.requires.tree c.requires.tight room.0 room.1
     is.pushed is.on c.loop-node-test.true (sym c.in-Some.ensures.label) (amount_some c.args.amount c.ranges.amount c.requires.some) new before in

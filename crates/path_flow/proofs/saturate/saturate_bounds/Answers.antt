@@ -5,27 +5,33 @@ use Rattle.path_flow.specs.Steps.{reduced_cost}
 use Rattle.path_flow.specs.Saturation.{IsSaturated}
 use Rattle.flow_core.specs.Layout.{FlowNetwork}
 use Rattle.flow_core.specs.State.{NetworkState}
-use Rattle.flow_core.proofs.Sizes.{length-arcs_of}
 use Rattle.path_flow.proofs.Saturating.{one_arc_more, free_cost, bound_counted, bound_units}
 use Rattle.path_flow.proofs.saturate.saturate_bounds.Goals as goal
 
-pub saturate_if_negative-requires-clause-arc : goal.saturate_if_negative-requires-clause-arc
-saturate_if_negative-requires-clause-arc c =
+pub saturate_bound-requires-clause-bound : goal.saturate_bound-requires-clause-bound
+saturate_bound-requires-clause-bound c =
     let bounds = ap (λ (n : FlowNetwork). length n.bounds) c.loop-bound.invariant.saturated.network in
-    omega (arith, bounds, length-arcs_of c.loop-bound.net.network, c.loop-bound-test.true, c.loop-bound.auto.bound-end, c.bounds-bound-end.ensures)
+    omega (arith, bounds, c.loop-bound-test.true, c.loop-bound.auto.bound-end, c.bounds-bound-end.ensures)
+
+pub saturate_bound-requires-clause-obeys : goal.saturate_bound-requires-clause-obeys
+saturate_bound-requires-clause-obeys c =
+    let old = c.args.net.now in
+    let k = c.loop-bound.bound in
+    let below : k < length old.network.bounds = omega (arith, c.loop-bound-test.true, c.loop-bound.auto.bound-end, c.bounds-bound-end.ensures) in
+    λ none. free_cost k old c.loop-bound.net k c.loop-bound.invariant.saturated c.requires.obeys below none
 
 pub loop-bound-preserved : goal.loop-bound-preserved
 loop-bound-preserved c =
     let was = c.loop-bound.invariant in
     let old = c.args.net.now in
     let net = c.loop-bound.net in
-    let new = c.saturate_if_negative.new.net in
+    let new = c.saturate_bound.new.net in
     let k = c.loop-bound.bound in
-    let step = c.saturate_if_negative.ensures.saturated in
+    let step = c.saturate_bound.ensures.saturated in
     let below : k < length old.network.bounds = omega (arith, c.loop-bound-test.true, c.loop-bound.auto.bound-end, c.bounds-bound-end.ensures) in
     let free : get_or net.network.prices k 1 ≡ 0 → pos 0 ≤ℤ reduced_cost net k = λ none. free_cost k old net k was.saturated c.requires.obeys below none in
     record {
-      network = c.saturate_if_negative.ensures.network;
+      network = c.saturate_bound.ensures.network;
       saturated = one_arc_more old net new k was.saturated step (λ none. free (ap (λ (n : FlowNetwork). get_or n.prices k 1) (sym step.network) ∙ none));
       units = bound_units old net new k c.requires.network was.saturated.network below step
           (λ none. step.kept (free (ap (λ (n : FlowNetwork). get_or n.prices k 1) was.saturated.network ∙ none))) was.units;

@@ -1,9 +1,9 @@
 use Rattle.std.proofs.Common.{◌≡◌, ◌<◌, ◌+◌, ℕ, zero, suc, List, [], ◌∷◌, Some, length, get_or, drop, inl, refl, sym, ◌∙◌, subst, add-one, drop-cons, arith}
 use Rattle.std.specs.Prelude.{Contains}
 use Rattle.bound_graph.specs.Graph.{leaving}
+use Rattle.bound_graph.specs.Reverses.{with_reverses}
 use Rattle.flow_core.specs.Layout.{arcs_of}
 use Rattle.flow_core.specs.State.{NetworkState}
-use Rattle.flow_core.specs.Views.{with_reverses}
 use Rattle.path_flow.specs.declared.search.Task.{Task}
 use Rattle.path_flow.specs.declared.search.Label.{Label}
 use Rattle.path_flow.specs.Reach.{Reach}

@@ -1,7 +1,7 @@
 use Rattle.std.proofs.Common.{◌≡◌, drop, length}
 use Rattle.bound_graph.specs.Graph.{leaving}
+use Rattle.bound_graph.specs.Reverses.{with_reverses}
 use Rattle.flow_core.specs.Layout.{arcs_of}
-use Rattle.flow_core.specs.Views.{with_reverses}
 use Rattle.path_flow.specs.Searching.{IsLast, IsSearching, open_nodes}
 use Rattle.path_flow.proofs.Stepping.{IsAmong}
 use Rattle.path_flow.proofs.search.expand.Given as goal

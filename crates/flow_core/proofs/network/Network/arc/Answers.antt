@@ -1,11 +1,11 @@
 use Rattle.std.proofs.Common.{◌≡◌, ◌*◌, List, map, Some, ap, ◌∙◌, subst, rules, arith}
 use Rattle.bound_graph.specs.declared.arc.Arc.{Arc}
 use Rattle.bound_graph.specs.Arcs.{arc_at}
+use Rattle.bound_graph.specs.Reverses.{with_reverses}
+use Rattle.bound_graph.proofs.Reverses.{arc_there}
 use Rattle.flow_core.specs.Layout.{arcs_of, arc_numbered}
 use Rattle.flow_core.specs.State.{NetworkState, IsNetwork}
-use Rattle.flow_core.specs.Views.{with_reverses}
 use Rattle.flow_core.proofs.Sizes.{few_arcs}
-use Rattle.flow_core.proofs.BothWays.{arc_there}
 use Rattle.flow_core.proofs.network.Network.arc.Goals as goal
 
 pub overflow_mul-arc : goal.overflow_mul-arc

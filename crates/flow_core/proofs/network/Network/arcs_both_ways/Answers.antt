@@ -1,10 +1,10 @@
 use Rattle.std.proofs.Common.{List, Option, Some, length, ap, ◌∙◌}
 use Rattle.std.proofs.lemmas.List.{length-map}
 use Rattle.bound_graph.specs.declared.arc.Arc.{Arc}
+use Rattle.bound_graph.specs.Reverses.{with_reverses}
+use Rattle.bound_graph.proofs.Reverses.{length-with_reverses}
 use Rattle.flow_core.specs.Layout.{arcs_of}
 use Rattle.flow_core.specs.State.{NetworkState}
-use Rattle.flow_core.specs.Views.{with_reverses}
-use Rattle.flow_core.proofs.BothWays.{length-with_reverses}
 use Rattle.flow_core.proofs.network.Network.arcs_both_ways.Goals as goal
 
 pub returns : goal.returns
