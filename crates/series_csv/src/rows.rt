@@ -25,11 +25,11 @@ pub(crate) struct Rows {
 
 impl Rows {
     ghost use Rattle.std.specs.Prelude.{◌≡◌, ◌≤◌, [], ◌∷◌, ◌++◌, length, IfOk, OnOk, MatchOption, Contains, slice_get, Some};
-    ghost use Rattle.series_csv.specs.declared.rows.Rows.{Rows};
     ghost use Rattle.std.specs.List.{AllByRecursion};
     ghost use Rattle.screen_model.specs.declared.limits.TheConstants.{MOST_ROWS, MOST_READINGS};
     ghost use Rattle.series_csv.specs.Readings.{places_from, values_of, IsSmall, TimesRise};
     ghost use Rattle.series_csv.specs.Indexed.{AreIndexed};
+    ghost use Rattle.series_csv.specs.declared.rows.Rows.{Rows};
 
     /// No row. It takes no memory.
     pub(crate) fn new(alloc: Global) -> Rows

@@ -5,7 +5,7 @@ ghost use Rattle.std.specs.Prelude.{IfOk};
 ghost use Rattle.series_csv.specs.ReadBack.{IsSeriesOf};
 
 use crate::series_csv_tests::{BASE, THREE, accepted, refused, tall};
-use rule_file::read_rules;
+use rule_file::{Rules, read_rules};
 use screen_model::Series;
 use series_csv::TableCause::NoHeader;
 use series_csv::{Table, read_table, table_text};
@@ -22,7 +22,10 @@ const FILES: [(&'static str, &'static str); 9] = [
     ("time,x\n0,1\n1,2", "time,x\n0,1\n1,2\n"),
     ("time,x\r\n0,1\r\n\r\n1,2\r\n", "time,x\n0,1\n1,2\n"),
     ("\"\n\n\",x\n0,1\n", "\"\n\n\",x\n0,1\n"),
-    ("time,x,\"\n\"\n0,1,\"\n\n\n\n\"\n", "time,x,\"\n\"\n0,1,\"\n\n\n\n\"\n"),
+    (
+        "time,x,\"\n\"\n0,1,\"\n\n\n\n\"\n",
+        "time,x,\"\n\"\n0,1,\"\n\n\n\n\"\n",
+    ),
     ("time,x,n\n0,1,a\rb", "time,x,n\n0,1,\"a\rb\"\n"),
 ];
 
@@ -75,25 +78,44 @@ const TEXTS: [(u8, &'static str); 4] = [
     (6, ",-123.456789\n"),
 ];
 
-/// A table of so many readings, all 0, is written with longer values.
-fn check_longer(rt: &impl Abort, alloc: Global, readings: u32) -> Result<(), Fail> {
-    for (decimals, text) in TEXTS {
-        let rules = format!(in alloc; "[format]\ndecimals = {decimals}\n[[range]]\nsensor = \"x\"\nmin = 0\n")?;
-        let rules = read_rules(alloc, rules.as_bytes())?;
-        let file = tall(alloc, b"t,x\n", readings, b",0\n")?;
-        let table = read_table(alloc, &rules, file.as_slice())?;
-        let series = all_of(alloc, &table, -123_456_789)?;
-        let written = table_text(alloc, &rules, &table, &series)?;
-        let wanted = tall(alloc, b"t,x\n", readings, text.as_bytes())?;
-        assert_eq!(rt; written.as_slice(), wanted.as_slice());
-    }
+/// Rules with so many decimals.
+fn with_decimals(alloc: Global, decimals: u8) -> Result<Rules, Fail> {
+    let text = format!(in alloc;
+        "[format]\ndecimals = {decimals}\n[[range]]\nsensor = \"x\"\nmin = 0\n"
+    )?;
+    Ok(read_rules(alloc, text.as_bytes())?)
+}
+
+/// The text of the file's table with -123456789 units for each reading.
+fn longer(alloc: Global, rules: &Rules, file: &[u8]) -> Result<Vec<u8>, Fail> {
+    let table = read_table(alloc, rules, file)?;
+    let series = all_of(alloc, &table, -123_456_789)?;
+    Ok(table_text(alloc, rules, &table, &series)?)
+}
+
+/// So many readings of 0 are written with these bytes for each.
+fn check_longer(
+    rt: &impl Abort,
+    alloc: Global,
+    rules: &Rules,
+    readings: u32,
+    bytes: &[u8],
+) -> Result<(), Fail> {
+    let file = tall(alloc, b"t,x\n", readings, b",0\n")?;
+    let written = longer(alloc, rules, file.as_slice())?;
+    let wanted = tall(alloc, b"t,x\n", readings, bytes)?;
+    assert_eq!(rt; written.as_slice(), wanted.as_slice());
     Ok(())
 }
 
 #[test]
 fn readings_may_gain_digits(rt: HostRuntime) -> Result<(), Fail> {
-    for readings in [0, 1, 2, 20_000] {
-        check_longer(&rt, rt.alloc(), readings)?;
+    let alloc = rt.alloc();
+    for (decimals, text) in TEXTS {
+        let rules = with_decimals(alloc, decimals)?;
+        check_longer(&rt, alloc, &rules, 0, text.as_bytes())?;
+        check_longer(&rt, alloc, &rules, 1, text.as_bytes())?;
+        check_longer(&rt, alloc, &rules, 20_000, text.as_bytes())?;
     }
     Ok(())
 }
