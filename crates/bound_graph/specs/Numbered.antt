@@ -8,7 +8,7 @@ use Rattle.bound_graph.specs.Reverses.{with_reverses}
 abbrev pub numbered : Bool → List Arc → List Arc
 numbered both_ways table = if both_ways then with_reverses table else table
 
--- each cost can be negated
+-- each cost is small enough to be negated
 abbrev pub HaveCosts : List Arc → Type 0
 HaveCosts table = AllByRecursion (λ arc. unsigned_abs arc.cost ≤ 4 * 10 ^ 15) table
 

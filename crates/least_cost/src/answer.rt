@@ -6,18 +6,18 @@ use std::alloc::{AllocError, Global};
 
 /// The lists that an answer is written to, whatever it will be.
 #[derive(Drop)]
-pub struct AnswerLists {
+pub(crate) struct AnswerLists {
     /// For the value of each reading.
-    pub series: Series,
+    pub(crate) series: Series,
     /// For an item for each bound.
-    pub flow: FlowList,
+    pub(crate) flow: FlowList,
     /// For the name of a bound for each step of a cycle, which leaves no node twice.
-    pub cycle: NameList,
+    pub(crate) cycle: NameList,
 }
 
 impl AnswerLists {
     /// Empty lists, with all the room that an answer over so many nodes and bounds can want.
-    pub fn with_room(alloc: Global, nodes: u32, bounds: u32) -> Result<AnswerLists, AllocError>
+    pub(crate) fn with_room(alloc: Global, nodes: u32, bounds: u32) -> Result<AnswerLists, AllocError>
         ensures { IfOk result (λ lists. lists ≡ record { series = []; flow = []; cycle = [] }) }
     {
         Ok(AnswerLists {

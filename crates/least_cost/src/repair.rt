@@ -20,8 +20,8 @@ use std::alloc::{AllocError, Global};
 
 /// The repair of a problem, or a cycle of bounds that shows that no series obeys.
 ///
-/// All memory is taken before the solver begins, that of the answer with it: 28 bytes for each node and 32 for each bound, of
-/// which only what the answer fills is ever written. The error is that memory ran out.
+/// All memory is taken before the solver begins. The lists of the answer take 28 bytes for each node and 32 for each bound,
+/// beside what the network, the room and the solver take. The error is that memory ran out.
 pub fn least_cost<V: Solver>(
     alloc: Global,
     problem: &Problem<'_>,

@@ -49,8 +49,8 @@ fn saturate_bounds(net: &mut Network)
     }
 }
 
-/// Saturates a bound on which nothing flows if its reduced cost is negative. One without a price has none, and is passed
-/// over before its arc is read.
+/// Saturates a bound on which nothing flows if its reduced cost is negative. That of a bound without a price is not, so its
+/// arc is not even read.
 fn saturate_bound(net: &mut Network, bound: u32)
     requires network { IsNetwork net.old }
     requires bound { bound < length net.old.network.bounds }

@@ -38,8 +38,8 @@ fn push_if_changed(changes: &mut Changes, reading: Repaired) -> Result<(), Alloc
     }
 }
 
-/// Compares the readings of a table with the values of a series, and goes over them once. The list of changes takes room for
-/// what changed alone.
+/// Compares the readings of a table with the values of a series, and goes over them once. The list of changes grows with what
+/// changed.
 pub(crate) fn compare(
     alloc: Global,
     table: &Table,

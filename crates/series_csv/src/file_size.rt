@@ -21,10 +21,14 @@ pub(crate) struct FileSize {
 }
 
 impl FileSize {
-    ghost use Rattle.std.specs.Prelude.{◌*◌, ◌≤◌};
+    ghost use Rattle.std.specs.Prelude.{◌≡◌, ◌==◌, ◌*◌, ◌≤◌, count_by, length};
+    ghost use Rattle.record_cut.specs.Bytes.{line_feed};
 
     /// The size of the file with these bytes.
-    pub(crate) fn of(bytes: &[u8]) -> FileSize {
+    pub(crate) fn of(bytes: &[u8]) -> FileSize
+        ensures bytes { result.bytes ≡ length bytes.now }
+        ensures line_feeds { result.line_feeds ≡ count_by (λ byte. byte == line_feed) bytes.now }
+    {
         FileSize {
             bytes: bytes.len(),
             line_feeds: line_feeds(bytes),

@@ -146,6 +146,13 @@ fn views_are(rt: &impl Abort, net: &Network, views: &[(u32, bool, bool, bool)]) 
     }
 }
 
+/// The arcs of these numbers are bounds without a price, or are not.
+fn unpriced_are(rt: &impl Abort, net: &Network, arcs: &[(u32, bool)]) {
+    for (arc, is_unpriced) in arcs {
+        assert_eq!(rt; net.is_unpriced(*arc), *is_unpriced);
+    }
+}
+
 /// A potential is 0, and another one after it was set.
 fn potential_moves(rt: &impl Abort, net: &mut Network, node: u32, value: i64) {
     assert!(rt; 0 < node && node < net.nodes());
@@ -164,6 +171,7 @@ fn a_network_of_nothing(rt: HostRuntime) -> Result<(), Fail> {
     sizes_are(&rt, &net, 1, 0, 0);
     leaving_are(&rt, &net, 0, &[]);
     views_are(&rt, &net, &[(0, false, false, false)]);
+    unpriced_are(&rt, &net, &[(0, false)]);
     assert_eq!(rt; net.value(), 0);
     pull_is_balance();
     balanced_everywhere();
@@ -207,6 +215,7 @@ fn a_flow_pushed_by_hand(rt: HostRuntime) -> Result<(), Fail> {
         &[(8, arc(2, 3, 1)), (12, arc(0, 2, 11)), (15, arc(3, 0, -20))],
     );
     leaving_are(&rt, &net, 3, &[9, 10, 17, 18, 29, 30]);
+    unpriced_are(&rt, &net, &[(0, true), (9, true), (10, false), (18, false)]);
     push(&rt, &mut net, 12, false, 1);
     excesses_are(&rt, &net, &[-1, 0, 1, 0, 0]);
     push(&rt, &mut net, 8, false, 1);
@@ -240,6 +249,11 @@ fn prices_between_readings(rt: HostRuntime) -> Result<(), Fail> {
     let mut net = four_readings(rt.alloc(), 1_000, 7)?;
     // No price: all weights, all prices and 1 more.
     flows_are(&rt, &net, &[(0, 0, 4_015), (8, 0, 7), (10, 0, 1_000)]);
+    unpriced_are(
+        &rt,
+        &net,
+        &[(7, true), (8, false), (10, false), (18, false)],
+    );
     views_are(
         &rt,
         &net,
