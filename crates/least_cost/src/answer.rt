@@ -17,7 +17,11 @@ pub(crate) struct AnswerLists {
 
 impl AnswerLists {
     /// Empty lists, with all the room that an answer over so many nodes and bounds can want.
-    pub(crate) fn with_room(alloc: Global, nodes: u32, bounds: u32) -> Result<AnswerLists, AllocError>
+    pub(crate) fn with_room(
+        alloc: Global,
+        nodes: u32,
+        bounds: u32,
+    ) -> Result<AnswerLists, AllocError>
         ensures { IfOk result (λ lists. lists ≡ record { series = []; flow = []; cycle = [] }) }
     {
         Ok(AnswerLists {
