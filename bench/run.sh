@@ -10,8 +10,8 @@
 # `solve` and `global` run on files of seven kinds, of 20,000 and of 200,000 readings. `solve` prints what solving takes, how
 # often flow was pushed, and the nodes that the plain searches settled and the arcs that they looked at; then the memory of
 # each side, which also holds the files, and how much longer the greater file takes. `global` runs the built program, and
-# prints its best time and the greatest memory that it took, beside the sum of the best times of its parts and that of the
-# twin's parts.
+# prints its best time and the greatest memory that it took, beside the least sum of the times of its parts, which are of one
+# round, and that of the twin's parts. The ratio of the whole to the twin's parts is the median of the rounds.
 #
 # `online` sends 1,000,000 rows of one sensor, one a second, from a pipe through the built program and through its twin, by a
 # rule with a window of 10, of 60, of 600 and of 4,000 seconds, with up to 4,096 rows held, and compares the bytes that they
@@ -128,17 +128,24 @@ least() {
         END { for (i = 1; i <= NF; i++) printf "%s ", least[i]; print "" }' "$1"
 }
 
-# parts KIND READINGS: makes the files, and runs both sides in turn on them. Leaves a line for each round, and the memory.
-parts() {
+# make_files KIND READINGS: makes the files, and forgets what was measured on others.
+make_files() {
     local folder=bench/out/$1
     mkdir -p "$folder"
     bench/out/files "$1" "$2" "$folder"
-    rm -f "$folder/plain" "$folder/proved"
-    for _ in $(seq "$rounds"); do
-        /usr/bin/time -f %M -o "$folder/plain-memory" "bench/out/$twin" "$folder" >> "$folder/plain"
-        /usr/bin/time -f %M -o "$folder/proved-memory" "$proved" repair "$folder" >> "$folder/proved"
-    done
-    # What the repair costs, and how often flow was changed.
+    rm -f "$folder"/{plain,proved}{,-texts} "$folder/whole"
+}
+
+# parts KIND: both sides in turn, a line for each of them, and its memory.
+parts() {
+    local folder=bench/out/$1
+    /usr/bin/time -f %M -o "$folder/plain-memory" "bench/out/$twin" "$folder" >> "$folder/plain"
+    /usr/bin/time -f %M -o "$folder/proved-memory" "$proved" repair "$folder" >> "$folder/proved"
+}
+
+# same_answers KIND: compares what the repairs cost, and how often flow was changed.
+same_answers() {
+    local folder=bench/out/$1
     [ "$(cut -d' ' -f6,7 "$folder/plain" | sort -u)" = "$(cut -d' ' -f6,7 "$folder/proved" | sort -u)" ] \
         || { echo "the answers differ"; tail -n 1 "$folder/plain" "$folder/proved"; exit 1; }
 }
@@ -146,7 +153,11 @@ parts() {
 # solve KIND READINGS: what solving takes on both sides.
 solve() {
     local folder=bench/out/$1 plain_time proved_time pushes settled looks
-    parts "$1" "$2"
+    make_files "$1" "$2"
+    for _ in $(seq "$rounds"); do
+        parts "$1"
+    done
+    same_answers "$1"
     read -r _ _ _ plain_time _ < <(least "$folder/plain")
     read -r _ _ _ proved_time _ _ pushes < <(least "$folder/proved")
     read -r settled looks < <("bench/out/$twin" "$folder" counts)
@@ -163,38 +174,48 @@ solve() {
 
 # repair KIND READINGS: the whole program on files of that kind, and the parts on both sides.
 repair() {
-    local kind=$1 readings=$2 folder=bench/out/$1 status began took best= memory plain_sum proved_sum
-    parts "$kind" "$readings"
-    rm -f "$folder/plain-texts" "$folder/proved-texts"
+    local kind=$1 readings=$2 folder=bench/out/$1 status began took memory plain_parts proved_parts ratio
+    local program_call=(crates/screen/out/screen global "$folder/rules.toml" "$folder/readings.csv" "$folder/cert")
+    make_files "$kind" "$readings"
     for _ in $(seq "$rounds"); do
+        parts "$kind"
         status=0
         began=${EPOCHREALTIME/./}
-        /usr/bin/time -f %M -o "$folder/memory" crates/screen/out/screen global "$folder/rules.toml" "$folder/readings.csv" \
-            "$folder/cert" > "$folder/out" 2> "$folder/err" || status=$?
+        "${program_call[@]}" > "$folder/out" 2> "$folder/err" || status=$?
         took=$((${EPOCHREALTIME/./} - began))
         # Where no series obeys, the status is 1.
         [ "$status" = 0 ] || [ "$kind $status" = "blocked 1" ] || { cat "$folder/err"; exit 1; }
-        [ -n "$best" ] && [ "$best" -le "$took" ] || best=$took
+        echo "$took" >> "$folder/whole"
         "bench/out/$twin" "$folder" texts >> "$folder/plain-texts"
         "$proved" texts "$folder" >> "$folder/proved-texts"
     done
+    same_answers "$kind"
+    # Apart from the timed runs, since `time` itself takes a few milliseconds.
+    /usr/bin/time -f %M -o "$folder/memory" "${program_call[@]}" > "$folder/out" 2> "$folder/err" || true
     memory=$(tail -n 1 "$folder/memory")
-    plain_sum=$(sum_of "$folder/plain" "$folder/plain-texts")
-    proved_sum=$(sum_of "$folder/proved" "$folder/proved-texts")
-    awk -v name="$kind" -v readings="$readings" -v took="$best" -v memory="$memory" -v plain="${plain_sum##* }" \
-        -v proved="${proved_sum##* }" \
+    plain_parts=$(best_parts "$folder/plain" "$folder/plain-texts")
+    proved_parts=$(best_parts "$folder/proved" "$folder/proved-texts")
+    # The machine is now faster, now slower: so each round is compared with itself.
+    ratio=$(paste -d ' ' "$folder/whole" <(cut -d' ' -f1-5 "$folder/plain") <(cut -d' ' -f1 "$folder/plain-texts") \
+        | awk '{ sum = 0; for (i = 2; i <= NF; i++) sum += $i; print $1 * 1000 / sum }' | sort -g \
+        | awk '{ at[NR] = $1 } END { print at[int((NR + 1) / 2)] }')
+    awk -v name="$kind" -v readings="$readings" -v took="$(sort -n "$folder/whole" | head -n 1)" -v memory="$memory" \
+        -v plain="${plain_parts##* }" -v proved="${proved_parts##* }" -v ratio="$ratio" \
         'BEGIN {
             printf "%s: %d readings, %.0f ms, %d bytes a reading; ", name, readings, took / 1000, memory * 1024 / readings
-            printf "parts: proved %.0f ms, plain %.0f ms, ratio of the whole to the plain parts %.2f\n", proved, plain, \
-                took / 1000 / plain
+            printf "parts: proved %.0f ms, plain %.0f ms, ratio of the whole to the plain parts %.2f\n", proved, plain, ratio
         }'
-    echo "    read, bounds, network, solve, greatest, texts, sum in ms: proved ${proved_sum}; plain ${plain_sum}"
+    echo "    read, bounds, network, solve, greatest, texts, sum in ms: proved ${proved_parts}; plain ${plain_parts}"
 }
 
-# sum_of PARTS TEXTS: the least milliseconds of each part, and their sum.
-sum_of() {
-    echo "$(least "$1" | cut -d' ' -f1-5) $(least "$2" | cut -d' ' -f1)" \
-        | awk '{ for (i = 1; i <= NF; i++) { sum += $i / 1000000; printf "%.1f ", $i / 1000000 } printf "%.1f", sum }'
+# best_parts PARTS TEXTS: the milliseconds of the parts of the round whose sum is least, and their sum.
+best_parts() {
+    paste -d ' ' <(cut -d' ' -f1-5 "$1") <(cut -d' ' -f1 "$2") \
+        | awk '{
+            sum = 0; line = ""
+            for (i = 1; i <= NF; i++) { sum += $i / 1000000; line = line sprintf("%.1f ", $i / 1000000) }
+            if (NR == 1 || sum < least) { least = sum; best = line }
+        } END { printf "%s%.1f", best, least }'
 }
 
 case $what in
