@@ -11,7 +11,8 @@
 # often flow was pushed, and the nodes that the plain searches settled and the arcs that they looked at; then the memory of
 # each side, which also holds the files, and how much longer the greater file takes. `global` runs the built program, and
 # prints its best time and the greatest memory that it took, beside the least sum of the times of its parts, which are of one
-# round, and that of the twin's parts. The ratio of the whole to the twin's parts is the median of the rounds.
+# round, and that of the twin's parts. The ratio of the whole to the twin's parts is the median of the rounds. What is written
+# goes to no disk.
 #
 # `online` sends 1,000,000 rows of one sensor, one a second, from a pipe through the built program and through its twin, by a
 # rule with a window of 10, of 60, of 600 and of 4,000 seconds, with up to 4,096 rows held, and compares the bytes that they
@@ -174,24 +175,24 @@ solve() {
 
 # repair KIND READINGS: the whole program on files of that kind, and the parts on both sides.
 repair() {
-    local kind=$1 readings=$2 folder=bench/out/$1 status began took memory plain_parts proved_parts ratio
-    local program_call=(crates/screen/out/screen global "$folder/rules.toml" "$folder/readings.csv" "$folder/cert")
+    local kind=$1 readings=$2 folder=bench/out/$1 status=0 again began memory plain_parts proved_parts ratio
+    local program_call=(crates/screen/out/screen global "$folder/rules.toml" "$folder/readings.csv")
     make_files "$kind" "$readings"
+    /usr/bin/time -f %M -o "$folder/memory" "${program_call[@]}" "$folder/cert" > "$folder/out" 2> "$folder/err" || status=$?
+    # Where no series obeys, the status is 1.
+    [ "$status" = 0 ] || [ "$kind $status" = "blocked 1" ] || { cat "$folder/err"; exit 1; }
     for _ in $(seq "$rounds"); do
         parts "$kind"
-        status=0
+        # No disk is timed, nor `time` itself, which takes a few milliseconds.
         began=${EPOCHREALTIME/./}
-        "${program_call[@]}" > "$folder/out" 2> "$folder/err" || status=$?
-        took=$((${EPOCHREALTIME/./} - began))
-        # Where no series obeys, the status is 1.
-        [ "$status" = 0 ] || [ "$kind $status" = "blocked 1" ] || { cat "$folder/err"; exit 1; }
-        echo "$took" >> "$folder/whole"
+        again=0
+        "${program_call[@]}" /dev/null > /dev/null 2> "$folder/err" || again=$?
+        echo $((${EPOCHREALTIME/./} - began)) >> "$folder/whole"
+        [ "$again" = "$status" ] || { cat "$folder/err"; exit 1; }
         "bench/out/$twin" "$folder" texts >> "$folder/plain-texts"
         "$proved" texts "$folder" >> "$folder/proved-texts"
     done
     same_answers "$kind"
-    # Apart from the timed runs, since `time` itself takes a few milliseconds.
-    /usr/bin/time -f %M -o "$folder/memory" "${program_call[@]}" > "$folder/out" 2> "$folder/err" || true
     memory=$(tail -n 1 "$folder/memory")
     plain_parts=$(best_parts "$folder/plain" "$folder/plain-texts")
     proved_parts=$(best_parts "$folder/proved" "$folder/proved-texts")
