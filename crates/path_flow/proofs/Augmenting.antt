@@ -31,7 +31,7 @@ optimal_pushed task labels end node amount old new all pushed arc below = ⊎_el
     no_negative_kept old new arc pushed.network pushed.potentials (pushed.tight arc slack) (all arc inside))
     (none_or_some (reduced_cost old arc))
 
-count_of : (amount : ℤ) → pos 1 ≤ℤ amount → pos (unsigned_abs amount) ≡ amount
+pub count_of : (amount : ℤ) → pos 1 ≤ℤ amount → pos (unsigned_abs amount) ≡ amount
 count_of (pos n) some = refl
 count_of (negsuc n) some = absurd (omega (arith, ints, some))
 

@@ -41,11 +41,11 @@ not_zero : (direction : Direction) (z : ℤ) → IsOpposed direction z → z ≡
 not_zero Forwards z other none = absurd (omega (arith, ints, none, other))
 not_zero Backwards z other none = absurd (omega (arith, ints, none, other))
 
-size_positive : (z : ℤ) → pos 0 ≤ℤ z → pos (unsigned_abs z) ≡ z
+pub size_positive : (z : ℤ) → pos 0 ≤ℤ z → pos (unsigned_abs z) ≡ z
 size_positive (pos n) low = refl
 size_positive (negsuc n) low = absurd (omega (arith, ints, low))
 
-size_negative : (z : ℤ) → z ≤ℤ pos 0 → pos (unsigned_abs z) ≡ pos 0 -ℤ z
+pub size_negative : (z : ℤ) → z ≤ℤ pos 0 → pos (unsigned_abs z) ≡ pos 0 -ℤ z
 size_negative (pos n) high = omega (arith, ints, high)
 size_negative (negsuc n) high = omega (arith, ints)
 
@@ -85,23 +85,23 @@ positive_both Backwards s e a sign within other enough =
 
 -- ---- an amount that is moved between two nodes
 
-record IsMoved (direction : Direction) (s e a : ℕ) (old new : List ℤ) : Type 0 where
-  long : length new ≡ length old
-  apart : s ≢ e
-  below_s : s < length old
-  below_e : e < length old
-  others : (x : ℕ) → x < length old → x ≢ s → x ≢ e → value_of new x ≡ value_of old x
-  at_s : value_of new s ≡ value_of old s -ℤ signed direction (pos a)
-  at_e : value_of new e ≡ value_of old e +ℤ signed direction (pos a)
+pub record IsMoved (direction : Direction) (s e a : ℕ) (old new : List ℤ) : Type 0 where
+  pub long : length new ≡ length old
+  pub apart : s ≢ e
+  pub below_s : s < length old
+  pub below_e : e < length old
+  pub others : (x : ℕ) → x < length old → x ≢ s → x ≢ e → value_of new x ≡ value_of old x
+  pub at_s : value_of new s ≡ value_of old s -ℤ signed direction (pos a)
+  pub at_e : value_of new e ≡ value_of old e +ℤ signed direction (pos a)
 
 signed_none : (direction : Direction) → signed direction (pos 0) ≡ pos 0
 signed_none Forwards = refl
 signed_none Backwards = omega (arith, ints)
 
-if_none : (direction : Direction) (b : Bool) (z : ℤ) → b ≡ false → signed direction (amount_if b z) ≡ pos 0
+pub if_none : (direction : Direction) (b : Bool) (z : ℤ) → b ≡ false → signed direction (amount_if b z) ≡ pos 0
 if_none direction b z none = ap (λ c. signed direction (amount_if c z)) none ∙ signed_none direction
 
-if_all : (direction : Direction) (b : Bool) (z : ℤ) → b ≡ true → signed direction (amount_if b z) ≡ signed direction z
+pub if_all : (direction : Direction) (b : Bool) (z : ℤ) → b ≡ true → signed direction (amount_if b z) ≡ signed direction z
 if_all direction b z all = ap (λ c. signed direction (amount_if c z)) all
 
 end_apart : (task : Task) (net : NetworkState) (e : ℕ) → 1 ≤ task.source → HasSign task.direction (value_of net.excesses task.source) → IsEnd net task e → task.source ≢ e
@@ -137,7 +137,7 @@ moved task old new gain is_old is_new some below sign is =
           omega (arith, ints, change, into, out);
     }
 
-whole_kept : (direction : Direction) (s e a : ℕ) (old new : List ℤ) → IsMoved direction s e a old new → total new ≡ total old
+pub whole_kept : (direction : Direction) (s e a : ℕ) (old new : List ℤ) → IsMoved direction s e a old new → total new ≡ total old
 whole_kept direction s e a old new is =
     let both = totals old new s e is.long is.apart is.below_s is.below_e is.others in
     omega (arith, ints, both, is.at_s, is.at_e)

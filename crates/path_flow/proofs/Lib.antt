@@ -1,5 +1,6 @@
 pub mod Augmenting
 pub mod Beginning
+pub mod Carrying
 pub mod Discharging
 pub mod Examples
 pub mod Expanding

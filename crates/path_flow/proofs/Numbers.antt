@@ -1,5 +1,5 @@
 -- The numbers of arcs and reverses, and those that leave a node.
-use Rattle.std.proofs.Common.{◌≡◌, ℕ, ◌+◌, ◌*◌, ◌/◌, ◌%◌, ◌<◌, Bool, true, false, if◌then◌else◌, length, get_or, sym, ap, ◌∙◌, arith}
+use Rattle.std.proofs.Common.{◌≡◌, ℕ, zero, suc, ◌+◌, ◌*◌, ◌/◌, ◌%◌, ◌<◌, Bool, true, false, if◌then◌else◌, List, [], ◌∷◌, length, get_or, refl, sym, ap, ◌∙◌, subst, arith}
 use Rattle.std.specs.Prelude.{Contains}
 use Rattle.std.proofs.lemmas.Bool.{eq-eqb, ne_eqb}
 use Rattle.std.proofs.lemmas.Option.{slice_get-get_or, slice_get_within, get_or_from_slice_get}
@@ -41,6 +41,15 @@ leaving_is network node number has =
     let below : number / 2 < length arcs = omega (arith, within, long) in
     let arc : arc_both_ways network number ≡ leaves.0 = sym (both_ways_at arcs number within) ∙ get_or_from_slice_get (with_reverses arcs) number leaves.0 no_arc leaves.1 in
     record { below = below; tail = ap (λ (a : Arc). a.tail) arc ∙ leaves.2 }
+
+default_at : (xs : List ℕ) (i d : ℕ) → i < length xs → get_or xs i d ≡ get_or xs i 0
+default_at [] i d below = absurd (omega (arith, below))
+default_at (x ∷ xs) zero d below = refl
+default_at (x ∷ xs) (suc i) d below = default_at xs i d (omega (arith, below))
+
+pub leaving_at : (network : FlowNetwork) (node i : ℕ) (items : List ℕ) → items ≡ leaving (with_reverses (arcs_of network)) node → i < length items → IsLeaving network node (get_or items i 0)
+leaving_at network node i items same below =
+    leaving_is network node (get_or items i 0) (subst (λ (l : List ℕ). Contains l (get_or items i 0)) same (i, below, default_at items i (get_or items i 0) below))
 
 -- and each step from the node has its number among them
 pub is_leaving : (network : FlowNetwork) (node arc : ℕ) (back : Bool) → arc < length (arcs_of network) → (turned back (arc_numbered network arc)).tail ≡ node → Contains (leaving (with_reverses (arcs_of network)) node) (number_of arc back)

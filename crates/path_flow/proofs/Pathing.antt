@@ -59,7 +59,7 @@ excess_pushed net arc false amount x is below =
     excess_raised net.excesses ends.tail ends.head amount x (omega (arith, valid.tail, is.excess_each)) (omega (arith, valid.head, is.excess_each))
 
 -- the same by the step that a search took
-excess_of_step : (net : NetworkState) (direction : Direction) (arc : ℕ) (back : Bool) (amount : ℤ) (x : ℕ) → IsNetwork net → arc < length (arcs_of net.network)
+pub excess_of_step : (net : NetworkState) (direction : Direction) (arc : ℕ) (back : Bool) (amount : ℤ) (x : ℕ) → IsNetwork net → arc < length (arcs_of net.network)
     → value_of (pushed net arc (takes_from direction back) amount).excesses x
     ≡ (value_of net.excesses x +ℤ signed direction (amount_if (eqb (turned back (arc_numbered net.network arc)).head x) amount))
     -ℤ signed direction (amount_if (eqb (turned back (arc_numbered net.network arc)).tail x) amount)
@@ -67,7 +67,7 @@ excess_of_step net Forwards arc back amount x is below = excess_pushed net arc b
 excess_of_step net Backwards arc true amount x is below = let push = excess_pushed net arc false amount x is below in omega (arith, ints, push)
 excess_of_step net Backwards arc false amount x is below = let push = excess_pushed net arc true amount x is below in omega (arith, ints, push)
 
-flow_elsewhere : (net : NetworkState) (arc other : ℕ) (back : Bool) (amount : ℤ) → other ≢ arc → flow_on (pushed net arc back amount) other ≡ flow_on net other
+pub flow_elsewhere : (net : NetworkState) (arc other : ℕ) (back : Bool) (amount : ℤ) → other ≢ arc → flow_on (pushed net arc back amount) other ≡ flow_on net other
 flow_elsewhere net arc other back amount ne = get_or-set_other net.flows arc other (flow_on net arc +ℤ rise_by back amount) (pos 0) ne
 
 rise_at_most : (back : Bool) (amount : ℤ) → pos 1 ≤ℤ amount → rise_by back amount ≤ℤ amount

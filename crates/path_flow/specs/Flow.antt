@@ -8,7 +8,8 @@ use Rattle.path_flow.specs.declared.search.Direction.{Direction}
 use Rattle.path_flow.specs.declared.search.Direction.TheVariants.{Forwards, Backwards}
 use Rattle.path_flow.specs.declared.search.Task.{Task}
 use Rattle.path_flow.specs.declared.search.Label.{Label}
-use Rattle.path_flow.specs.Steps.{reduced_cost}
+use Rattle.path_flow.specs.declared.carry.Purse.{Purse}
+use Rattle.path_flow.specs.Steps.{HasNoNegatives, reduced_cost}
 use Rattle.path_flow.specs.Search.{IsEnd, label_at, signed}
 
 -- the weights and the prices together: the most units that are pushed
@@ -84,3 +85,19 @@ pub record IsLeft (network : FlowNetwork) (bound : ℕ) (net : NetworkState) (sp
   pub few : units_left net ≤ 2 * most_units network
   pub changes : net.changes + length network.values * budget ≤ bound
   pub done : (x : ℕ) → 1 ≤ x → x < node → value_of net.excesses x ≡ pos 0
+
+-- What holds while excess is carried over tight arcs: no node lacks what a purse keeps for it. The excesses of all nodes
+-- together are within the need, and the flows on bounds without a price leave room for it.
+pub record IsCovered (purse : Purse) (net : NetworkState) : Type 0 where
+  pub optimal : HasNoNegatives net
+  pub limit : purse.limit + purse.need ≡ most_units net.network
+  pub top : purse.top ≤ purse.limit
+  pub free : (arc : ℕ) → get_or net.network.prices arc 1 ≡ 0 → flow_on net arc ≤ℤ pos purse.top
+  pub excess : excess_units net ≤ purse.need
+  pub whole : total net.excesses ≡ pos 0
+
+-- Excess was carried: the need stays, and each change of flow is paid for.
+pub record IsCarried (before purse : Purse) (old new : NetworkState) : Type 0 where
+  pub network : new.network ≡ old.network
+  pub need : purse.need ≡ before.need
+  pub changes : new.changes + purse.pool ≤ old.changes + before.pool

@@ -61,7 +61,7 @@ fn discharge_reading(net: &mut Network, labels: &mut Labels, node: u32, spare: i
 }
 
 /// Whether a node has an excess or a deficit.
-fn is_unbalanced(net: &Network, node: u32) -> bool
+pub(crate) fn is_unbalanced(net: &Network, node: u32) -> bool
     requires { node < nodes_of net.now.network }
     ensures some { result ≡ true → value_of net.now.excesses node ≢ pos 0 }
     ensures none { result ≡ false → value_of net.now.excesses node ≡ pos 0 }
@@ -113,7 +113,7 @@ fn plus(spare: i64, gain: i64) -> i64
 }
 
 /// The way in which an excess or a deficit is moved.
-fn direction_of(excess: i64) -> Direction
+pub(crate) fn direction_of(excess: i64) -> Direction
     requires { excess ≢ pos 0 }
     ensures { HasSign result excess }
 {

@@ -286,7 +286,7 @@ pub(crate) fn takes_from(number: u32, direction: Direction) -> bool
 }
 
 /// The node at which the arc or reverse of a number ends.
-fn node_after(net: &Network, number: u32) -> u32
+pub(crate) fn node_after(net: &Network, number: u32) -> u32
     requires { number / 2 < length (arcs_of net.now.network) }
     ensures { result ≡ (arc_both_ways net.now.network number).head }
 {

@@ -13,6 +13,8 @@ ghost use Rattle.path_flow.specs.Steps.{HasNoNegatives};
 ghost use Rattle.path_flow.specs.Searching.{AreFree};
 ghost use Rattle.path_flow.specs.Solver.{last_of, nodes_in};
 
+use crate::carry::carry;
+use crate::chains::Chains;
 use crate::discharge::discharge;
 use crate::saturate::saturate;
 use crate::search::Labels;
@@ -25,10 +27,11 @@ use std::alloc::{AllocError, Global};
 /// A solver by successive shortest augmenting paths.
 ///
 /// Of R readings with weights that add up to W, and Q bounds with prices that add up to P, it changes flow at most
-/// R + Q + (W + P) * R times, whatever the values are. It takes about 80 bytes for each node when it is prepared.
+/// R + Q + (W + P) * R times, whatever the values are. It takes about 210 bytes for each node when it is prepared.
 #[derive(Drop)]
 pub struct PathSolver {
     labels: Option<Labels>,
+    chains: Option<Chains>,
     arcs: u32,
     last: u64,
 }
@@ -40,6 +43,7 @@ impl PathSolver {
     {
         PathSolver {
             labels: None,
+            chains: None,
             arcs: 0,
             last: 0,
         }
@@ -59,19 +63,25 @@ impl Solver for PathSolver {
 
     fn prepare(&mut self, alloc: Global, nodes: u32, arcs: u32) -> Result<(), AllocError> {
         self.labels = Some(Labels::for_nodes(alloc, nodes)?);
+        self.chains = Some(Chains::for_nodes(alloc, nodes)?);
         self.arcs = arcs;
         Ok(())
     }
 
     fn solve(&mut self, net: &mut Network, room: &mut Room) -> Solved {
-        let solved = solve_with(net, room, &mut self.labels);
+        let solved = solve_with(net, room, &mut self.labels, &mut self.chains);
         self.last = net.changes();
         solved
     }
 }
 
 /// Solves a new network, or finds in the room a cycle of bounds without a price, with labels for the network's nodes.
-fn solve_with(net: &mut Network, room: &mut Room, labels: &mut Option<Labels>) -> Solved
+fn solve_with(
+    net: &mut Network,
+    room: &mut Room,
+    labels: &mut Option<Labels>,
+    chains: &mut Option<Chains>,
+) -> Solved
     requires new { IsNew net.old }
     requires room { length room.old.distances ≡ nodes_of net.old.network }
     requires labels { nodes_in labels.old ≡ nodes_of net.old.network }
@@ -82,7 +92,7 @@ fn solve_with(net: &mut Network, room: &mut Room, labels: &mut Option<Labels>) -
     ensures room_stays { length room.new.distances ≡ length room.old.distances }
     ensures changes { net.new.changes ≤ length net.old.network.values + priced_count net.old.network + most_units net.old.network * length net.old.network.values }
 {
-    match first_potentials(net, room) {
+    match first_potentials(net, room, chains) {
         Settled::Cycle => Solved::Blocked,
         Settled::Greatest => {
             balance(net, labels);
@@ -91,7 +101,8 @@ fn solve_with(net: &mut Network, room: &mut Room, labels: &mut Option<Labels>) -
     }
 }
 
-/// Saturates arcs, and moves the excess that this leaves to where there is a deficit.
+/// Saturates arcs, and moves the excess that this leaves to where there is a deficit: over tight arcs as far as they lead, and
+/// then along shortest paths.
 fn balance(net: &mut Network, labels: &mut Option<Labels>)
     requires network { IsNetwork net.old }
     requires empty { (arc : ℕ) → flow_on net.old arc ≡ pos 0 }
@@ -108,9 +119,10 @@ fn balance(net: &mut Network, labels: &mut Option<Labels>)
     ensures changes { net.new.changes ≤ length net.old.network.values + priced_count net.old.network + most_units net.old.network * length net.old.network.values }
 {
     saturate(net);
+    let budget = carry(net);
     if let Some(labels) = labels {
         labels.forget();
-        let spare = spare_units(net);
+        let spare = spare_units(net, budget);
         discharge(net, labels, spare);
     }
 }

@@ -8,12 +8,19 @@ ghost use Rattle.flow_core.specs.Views.{bare_arcs};
 ghost use Rattle.flow_core.specs.declared.limits.TheConstants.{MOST_VALUE};
 ghost use Rattle.path_flow.specs.Steps.{ChangesPotentials};
 
-use bound_graph::ArcList;
+use crate::chains::{Chains, place_chains};
 use flow_core::{MOST_VALUE, Network};
 use neg_cycle::{Room, Settled, Transposed, settle};
 
 /// Sets first potentials, or finds in the room a cycle of bounds without a price.
-pub(crate) fn first_potentials(net: &mut Network, room: &mut Room) -> Settled
+///
+/// The closer the starts by chains are to a series that obeys, the less is left to be settled; whatever they are, they can be
+/// settled.
+pub(crate) fn first_potentials(
+    net: &mut Network,
+    room: &mut Room,
+    chains: &mut Option<Chains>,
+) -> Settled
     requires room { length room.old.distances ≡ nodes_of net.old.network }
     ensures stays { ChangesPotentials net.old net.new }
     ensures network { result ≡ Settled.Greatest → IsNetwork net.new }
@@ -21,7 +28,9 @@ pub(crate) fn first_potentials(net: &mut Network, room: &mut Room) -> Settled
     ensures cycle { result ≡ Settled.Cycle → IsNegativeCycle (bare_arcs net.new) room.new.cycle }
     ensures size { length room.new.distances ≡ length room.old.distances }
 {
-    guess(net);
+    if let Some(chains) = chains {
+        place_chains(net, chains);
+    }
     if settle_from_potentials(net, room) == Settled::Cycle {
         return Settled::Cycle;
     }
@@ -33,63 +42,6 @@ pub(crate) fn first_potentials(net: &mut Network, room: &mut Room) -> Settled
     }
     take_distances(net, room);
     Settled::Greatest
-}
-
-/// Lets each potential be the value of its reading, clamped by the bounds from the readings before it.
-///
-/// The closer these are to a series that obeys, the less is left to be settled; whatever they are, they can be settled.
-fn guess(net: &mut Network)
-    ensures { ChangesPotentials net.old net.new }
-{
-    let first = net.bounds();
-    for reading in 0..net.nodes() - 1 {
-        let value = net.arc(first + 2 * reading).cost;
-        net.set_potential(reading + 1, within_values(i128::from(value)));
-    }
-    for node in 1..net.nodes() {
-        clamp_later(net, node);
-    }
-}
-
-/// Clamps the potentials of the nodes after this one by the bounds without a price between it and them.
-fn clamp_later(net: &mut Network, node: u32)
-    requires { node < nodes_of net.old.network }
-    ensures { ChangesPotentials net.old net.new }
-{
-    for place in 0..net.out_arcs(node).len() {
-        let number = net.out_arcs(node)[place];
-        if number / 2 < net.bounds() {
-            clamp_over(net, node, number);
-        }
-    }
-}
-
-/// Clamps the potential of the node after this one at the other end of an arc, if the arc is a bound without a price.
-fn clamp_over(net: &mut Network, node: u32, number: u32)
-    requires node { node < nodes_of net.old.network }
-    requires number { number / 2 < length net.old.network.bounds }
-    ensures { ChangesPotentials net.old net.new }
-{
-    if let Some(arc) = net.bound_arcs().arc(number - number % 2) {
-        let from = i128::from(net.potential(node));
-        let limit = i128::from(arc.cost);
-        if arc.head > node {
-            lower_to(net, arc.head, from + limit);
-        } else if arc.tail > node {
-            raise_to(net, arc.tail, from - limit);
-        }
-    }
-}
-
-/// Lets the potential of a reading be at most this.
-fn lower_to(net: &mut Network, node: u32, most: i128)
-    requires node { node < nodes_of net.old.network }
-    requires reading { 0 < node }
-    ensures { ChangesPotentials net.old net.new }
-{
-    if i128::from(net.potential(node)) > most {
-        net.set_potential(node, within_values(most));
-    }
 }
 
 /// Lets the potential of a reading be at least this.
@@ -104,7 +56,7 @@ fn raise_to(net: &mut Network, node: u32, least: i128)
 }
 
 /// The number, or the nearest one that a potential may be.
-fn within_values(number: i128) -> i64
+pub(crate) fn within_values(number: i128) -> i64
     ensures size { unsigned_abs result ≤ MOST_VALUE }
     ensures same { unsigned_abs number ≤ MOST_VALUE → result ≡ number }
 {

@@ -2,23 +2,46 @@
 ghost use Rattle.std.specs.Prelude.{◌≡◌, ◌≤◌, ◌<◌, ◌+◌, ◌*◌, ◌^◌, pos, ◌+ℤ◌, ◌-ℤ◌, ◌≤ℤ◌, get_or, length, sum, unsigned_abs};
 ghost use Rattle.flow_core.specs.Layout.{arcs_of, capacity_numbered};
 ghost use Rattle.flow_core.specs.State.{IsNetwork};
-ghost use Rattle.path_flow.specs.Flow.{most_units, units_left};
+ghost use Rattle.path_flow.specs.Flow.{excess_units, most_units, positive_size, units_left};
 
-use bound_graph::ArcList;
 use flow_core::Network;
 
 /// How many units more may be moved than stand at readings, in excess or deficit.
-///
-/// Weights and prices together are the most units that may be moved: then bounds without a price never are full.
-pub(crate) fn spare_units(net: &Network) -> i64
+pub(crate) fn spare_units(net: &Network, budget: u64) -> i64
     requires network { IsNetwork net.now }
     requires few { units_left net.now ≤ 2 * most_units net.now.network }
-    ensures { result ≡ pos (most_units net.now.network) -ℤ pos (units_left net.now) }
+    requires budget { budget ≤ most_units net.now.network }
+    ensures { result ≡ pos budget -ℤ pos (units_left net.now) }
 {
-    less(
-        sum_of_weights(net) + sum_of_prices(net),
-        units_at_readings(net),
-    )
+    less(budget, units_at_readings(net))
+}
+
+/// The weights and the prices together: the most units that may be moved, so that bounds without a price never are full.
+pub(crate) fn most_units(net: &Network) -> u64
+    requires network { IsNetwork net.now }
+    ensures { result ≡ most_units net.now.network }
+{
+    sum_of_weights(net) + sum_of_prices(net)
+}
+
+/// The excesses of all nodes together, without the deficits.
+pub(crate) fn excess_units(net: &Network) -> u64
+    requires network { IsNetwork net.now }
+    requires few { excess_units net.now ≤ most_units net.now.network }
+    ensures { result ≡ excess_units net.now }
+{
+    let mut units = 0;
+    for node in 0..net.nodes() {
+        units += positive_size(net.excess(node));
+    }
+    units
+}
+
+/// A number, or 0 where it is less.
+fn positive_size(number: i64) -> u64
+    ensures { result ≡ positive_size number }
+{
+    if number > 0 { number as u64 } else { 0 }
 }
 
 /// The difference of two numbers of units.
@@ -60,9 +83,10 @@ fn price(net: &Network, bound: u32) -> u64
     requires bound { bound < length net.now.network.bounds }
     ensures { result ≡ get_or net.now.network.prices bound 1 }
 {
-    match net.bound_arcs().arc(2 * bound) {
-        Some(_) => 0,
-        None => capacity(net, bound),
+    if net.is_unpriced(bound) {
+        0
+    } else {
+        capacity(net, bound)
     }
 }
 
@@ -94,7 +118,7 @@ fn whole(number: i64, other: i64) -> u64
 }
 
 /// The sum of the sizes of the excesses of all readings.
-fn units_at_readings(net: &Network) -> u64
+pub(crate) fn units_at_readings(net: &Network) -> u64
     requires network { IsNetwork net.now }
     requires few { units_left net.now ≤ 2 * most_units net.now.network }
     ensures { result ≡ units_left net.now }

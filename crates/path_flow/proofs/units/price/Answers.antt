@@ -1,15 +1,14 @@
-use Rattle.std.proofs.Common.{◌*◌, sym, ap, ◌∙◌}
-use Rattle.bound_graph.specs.Arcs.{arc_at}
-use Rattle.flow_core.specs.State.{NetworkState}
-use Rattle.flow_core.specs.Views.{bare_arcs}
-use Rattle.path_flow.proofs.Weighing.{price_where_none, price_where_some, price_is}
+use Rattle.std.proofs.Common.{true≢false, get_or, sym, ◌∙◌}
+use Rattle.std.proofs.lemmas.Bool.{eq-eqb, eqb-true}
+use Rattle.path_flow.proofs.Weighing.{price_is}
 use Rattle.path_flow.proofs.units.price.Goals as goal
 
-pub returns-in-Some : goal.returns-in-Some
-returns-in-Some c = sym (price_where_some c.args.net.now c.args.bound c.in-Some.field-0 (c.in-Some.ensures.found ∙ ap (λ (net : NetworkState). arc_at (bare_arcs net) (2 * c.args.bound)) c.bound_arcs.ensures))
+pub returns-then-is_unpriced : goal.returns-then-is_unpriced
+returns-then-is_unpriced c = sym (eqb-true (get_or c.args.net.now.network.prices c.args.bound 1) 0 (sym c.is_unpriced.ensures.value ∙ c.if-is_unpriced.true))
 
-pub returns-in-None : goal.returns-in-None
-returns-in-None c =
+pub returns-else-is_unpriced : goal.returns-else-is_unpriced
+returns-else-is_unpriced c =
+    let network = c.args.net.now.network in
     c.capacity.ensures
-    ∙ price_is c.args.net.now.network c.args.bound c.requires.network.layout c.requires.bound
-    (price_where_none c.args.net.now c.args.bound c.requires.bound (c.in-None.ensures.found ∙ ap (λ (net : NetworkState). arc_at (bare_arcs net) (2 * c.args.bound)) c.bound_arcs.ensures))
+    ∙ price_is network c.args.bound c.requires.network.layout c.requires.bound
+    (λ free. true≢false (sym (eq-eqb (get_or network.prices c.args.bound 1) 0 free) ∙ sym c.is_unpriced.ensures.value ∙ c.if-is_unpriced.false))

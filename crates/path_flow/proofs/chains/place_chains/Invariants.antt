@@ -1,5 +1,5 @@
 use Rattle.path_flow.specs.Steps.{ChangesPotentials}
-use Rattle.path_flow.proofs.starts.clamp_later.Given as goal
+use Rattle.path_flow.proofs.chains.place_chains.Given as goal
 
 abbrev pub invariant-loop-place : goal.invariant-loop-place
 invariant-loop-place l = ChangesPotentials l.fn.net l.net
