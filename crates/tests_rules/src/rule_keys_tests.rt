@@ -95,7 +95,7 @@ fn tables_of_each_kind(rt: HostRuntime) {
 
 /// Times in each form.
 #[test]
-fn times_in_each_form(rt: HostRuntime) {
+fn times_in_each_form(rt: HostRuntime) -> Result<(), Fail> {
     let rows = [
         (TimeForm::Sec, "from = 7", 7_000_000_000),
         (TimeForm::Milli, "from = 7", 7_000_000),
@@ -113,12 +113,11 @@ fn times_in_each_form(rt: HostRuntime) {
         ),
     ];
     for (form, line, want) in rows {
-        let Ok(text) = format!(in rt.alloc(); "sensor = \"x\"\n{line}") else {
-            continue;
-        };
+        let text = format!(in rt.alloc(); "sensor = \"x\"\n{line}")?;
         let found = number_in(rt.alloc(), form, TableKind::Trust, text.as_str(), From);
         assert_eq!(rt; found, Some(Ok(want)), "{line}");
     }
+    Ok(())
 }
 
 /// A table for each cause: no refusal is told as want of memory.

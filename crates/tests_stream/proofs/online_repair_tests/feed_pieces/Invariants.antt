@@ -1,5 +1,0 @@
-use Rattle.online_repair.specs.StandsFor.{HasEnded}
-use Rattle.tests_stream.proofs.online_repair_tests.feed_pieces.Given as goal
-
-abbrev pub invariant-loop-piece : goal.invariant-loop-piece
-invariant-loop-piece l = ¬ HasEnded l.online
