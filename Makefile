@@ -3,31 +3,22 @@
 PREFIX ?= /usr/local
 NAME ?= screen
 
-BINARY := crates/screen/out/screen
-BUILD_LOG := crates/screen/out/build.log
-SOURCES := crates.txt $(shell find crates -name out -prune -o -type f \( -name '*.rt' -o -name '*.antt' \) -print)
+BINARY := build/screen
+# The crates of the program stand above the first line of crates.txt that begins with '# Outside'.
+CRATES := $(shell sed '/^\# Outside/,$$d; s/:.*//; /^\#/d' crates.txt)
+SOURCES := crates.txt scripts/build $(shell find $(CRATES:%=crates/%) -name out -prune -o -type f \( -name '*.rt' -o -name '*.antt' \) -print)
 EXAMPLE := examples/cold_room
 SPIKE := examples/cold_room_spike
-CERT := crates/screen/out/example.cert
+CERT := build/example.cert
 HAS_RT := command -v rt > /dev/null || { echo 'The command rt of the Rattle kit is not on the path.'; exit 1; }
 
-# Prints a line as the proof of a crate ends, out of what rt says.
-PROOFS := while IFS= read -r line; do case $$line in \
-	'crate '*': modules '*) crate=$${line\#crate } && crate=$${crate%%:*} ;; \
-	logic=proved*) echo "  $$crate is proved" ;; \
-	esac; done
-
-.PHONY: all demo test check-docs install clean
+.PHONY: all demo test refused check-docs install clean
 
 all: $(BINARY)
 
-# Only what is proved is built. The build runs the program without words: it prints its usage and exits with 2.
+# Only what is proved is built.
 $(BINARY): $(SOURCES)
-	@$(HAS_RT)
-	@echo 'Building screen. The first build proves every crate of it, which may take from ten minutes to an hour.'
-	@mkdir -p $(dir $(BINARY)) && rm -f $(BINARY)
-	@(cd crates/screen && rt run) < /dev/null 2>&1 | tee $(BUILD_LOG) | { $(PROOFS); }
-	@test -x $(BINARY) || { tail -n 20 $(BUILD_LOG); echo 'The build failed. All that it printed is in $(BUILD_LOG).'; exit 1; }
+	@scripts/build $(BINARY)
 
 # Runs two examples, prints what comes of them, and compares that with what should come: a log that obeys is written as it
 # was; of one with a wrong reading the changed lines are shown, and its certificate is checked.
@@ -46,14 +37,19 @@ demo: $(BINARY)
 	@$(BINARY) check $(SPIKE)/rules.toml $(SPIKE)/readings.csv $(CERT)
 	@cmp $(CERT).csv $(SPIKE)/expected.out && cmp $(CERT) $(SPIKE)/expected.cert
 
-# Proves everything again, which also builds the program, and tries the program and the documents.
-test:
+# Proves everything, and tries the program and the documents.
+test: $(BINARY)
 	@$(HAS_RT)
 	@rt ci < /dev/null
 	@tests/documents
 	@tests/program $(BINARY)
+	@tests/rule_files $(BINARY)
 	@tests/drawn_files $(BINARY)
 	@tests/drawn_streams $(BINARY)
+
+# Tries all edits that the prover must refuse. `make test` tries some of them.
+refused:
+	@tests/refused/try
 
 # What the documents copy from elsewhere is what stands there.
 check-docs:
@@ -63,4 +59,4 @@ install: $(BINARY)
 	install -D -m 755 $(BINARY) $(DESTDIR)$(PREFIX)/bin/$(NAME)
 
 clean:
-	rm -rf crates/*/out
+	rm -rf build crates/*/out

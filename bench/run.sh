@@ -38,7 +38,7 @@ through() {
 stream() {
     local seconds=$1 folder=bench/out/stream-$1 rows took best_plain= best_proved= memory=()
     local readings=$folder/readings.csv twin_call=(bench/out/online 0 4096)
-    local program_call=(crates/screen/out/screen online "$folder/rules.toml")
+    local program_call=(build/screen online "$folder/rules.toml")
     [ "$seconds" = 0 ] || twin_call+=(level -2 2 1 "$seconds")
     mkdir -p "$folder"
     for rows in 100000 1000000; do
@@ -144,10 +144,10 @@ parts() {
     /usr/bin/time -f %M -o "$folder/proved-memory" "$proved" repair "$folder" >> "$folder/proved"
 }
 
-# same_answers KIND: compares what the repairs cost, and how often flow was changed.
+# same_answers KIND: compares what the repairs cost.
 same_answers() {
     local folder=bench/out/$1
-    [ "$(cut -d' ' -f6,7 "$folder/plain" | sort -u)" = "$(cut -d' ' -f6,7 "$folder/proved" | sort -u)" ] \
+    [ "$(cut -d' ' -f6 "$folder/plain" | sort -u)" = "$(cut -d' ' -f6 "$folder/proved" | sort -u)" ] \
         || { echo "the answers differ"; tail -n 1 "$folder/plain" "$folder/proved"; exit 1; }
 }
 
@@ -176,7 +176,7 @@ solve() {
 # repair KIND READINGS: the whole program on files of that kind, and the parts on both sides.
 repair() {
     local kind=$1 readings=$2 folder=bench/out/$1 status=0 again began memory plain_parts proved_parts ratio
-    local program_call=(crates/screen/out/screen global "$folder/rules.toml" "$folder/readings.csv")
+    local program_call=(build/screen global "$folder/rules.toml" "$folder/readings.csv")
     make_files "$kind" "$readings"
     /usr/bin/time -f %M -o "$folder/memory" "${program_call[@]}" "$folder/cert" > "$folder/out" 2> "$folder/err" || status=$?
     # Where no series obeys, the status is 1.

@@ -245,7 +245,7 @@ sed 's/,35.00/,20.05/' readings.csv > ../given/repaired.csv
 awk 'BEGIN {
     print "screen-cert 1\nclaim repair\ntotal 17940"
     for (k = 150; k < 3600; k += 300) print "set " k " 2 2005"
-    for (k = 150; k < 3600; k += 300) print "flow 1 " k - 1 " " k " 2 up 1"
+    for (k = 150; k < 3600; k += 300) print "flow 1 " k " " k + 1 " 2 down 1"
     print "end"
 }' > ../given/repaired_cert
 cp rules.toml readings.csv ../given/hour

@@ -395,8 +395,8 @@ fn spikes_in_an_hour_are_repaired(rt: HostRuntime) -> Result<(), Fail> {
     for spike in 0..12u32 {
         let row = spike * 300 + 150;
         sets.push_str(format!(in alloc; "set {row} 2 2005\n")?.as_str())?;
-        let before = row - 1;
-        flows.push_str(format!(in alloc; "flow 1 {before} {row} 2 up 1\n")?.as_str())?;
+        let after = row + 1;
+        flows.push_str(format!(in alloc; "flow 1 {row} {after} 2 down 1\n")?.as_str())?;
     }
     let cert = format!(in alloc; "screen-cert 1\nclaim repair\ntotal 17940\n{sets}{flows}end\n")?;
     let readings = hour(alloc, "35.00")?;
